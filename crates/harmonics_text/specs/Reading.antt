@@ -1,5 +1,4 @@
--- The book of a harmonics file: its parts in order, each of some lines (XTide's text harmonics file; this
--- project).
+-- The book in a harmonics file, part by part (XTide's text harmonics file; this project).
 use Rattle.std.specs.Prelude.{◌≡◌, ℕ, zero, suc, ℤ, ◌+◌, List, [], ◌∷◌, ◌++◌, length, Option, Some, None, Result, Ok, Err, if◌then◌else◌}
 use Rattle.harmonics_book.specs.declared.book.Constituent.{Constituent}
 use Rattle.harmonics_book.specs.declared.book.Station.{Station}
@@ -27,43 +26,48 @@ use Rattle.harmonics_text.specs.Rules.{
   pair_of,
 }
 
--- the first fault of a file: the number of its line, counted from 1, and the reason
+-- a fault of a file: the number of its line, counted from 1 over all lines, and the reason
 pub record At : Type 0 where
   pub line : ℕ
   pub why : Why
 
--- a part of a file: it reads the first of the lines and returns its value and the remaining lines; it
--- fails at a line, or with None if no line remains
+-- a part of a file, as a function of the lines from its start on: it gives the part's value and the
+-- lines after the part. It fails with the fault of a bad line, or with None if the lines end before
+-- the part is complete.
 abbrev pub Part : Type 0 → Type 0
 Part A = List Line → Result (A × List Line) (Option At)
 
--- a rule's value, or its fault with the number n of its line
+-- the value of a rule, or its error as a fault of the line with the number n
 abbrev pub at_line : {A : Type 0} → ℕ → Result A Why → Result A (Option At)
 at_line n (Ok x) = Ok x
 at_line n (Err why) = Err (Some (record { line = n; why = why }))
 
--- a rule applied to a line; a line that is too long is refused first
+-- `checked rule text`: the rule for the line `text` without a CR at its end; LineTooLong first if
+-- the line has more than 4,096 bytes
 abbrev pub checked : {A : Type 0} → (List ℕ → Result A Why) → List ℕ → Result A Why
 checked rule text = if is_too_long text then Err LineTooLong else rule (without_cr text)
 
--- a part that is one line, read by a rule
+-- `one rule`: the part of a file that is one line, with the value that the rule gives for it
 abbrev pub one : {A : Type 0} → (List ℕ → Result A Why) → Part A
 one rule [] = Err None
 one rule (l ∷ ls) = at_line l.number (checked rule l.text) >>= λ x. Ok (x, ls)
 
--- a part of `remaining` constituents, which are appended to the earlier ones
+-- `constituents remaining earlier`: the part with `remaining` lines of constituents; its value is
+-- the constituents in `earlier` and then the new ones
 unfoldable pub constituents : ℕ → List Constituent → Part (List Constituent)
 constituents zero earlier ls = Ok (earlier, ls)
 constituents (suc remaining) earlier ls = one (constituent_of earlier) ls >>= λ c. constituents remaining (earlier ++ c.0 ∷ []) c.1
 
--- a part of `remaining` values, on one line or more, which are appended to the earlier ones
+-- `values s remaining earlier`: the part with `remaining` values of the kind s, on one line or
+-- more; its value is the numbers in `earlier` and then the new ones
 unfoldable pub values : Scale → ℕ → List ℤ → Part (List ℤ)
 values s zero earlier ls = Ok (earlier, ls)
 values s (suc remaining) earlier [] = Err None
 values s (suc remaining) earlier (l ∷ ls) =
     at_line l.number (checked (λ text. values_from s (suc remaining) earlier (tokens text)) l.text) >>= λ v. values s v.0 v.1 ls
 
--- a table: for each constituent its name on a line, and a value for each year
+-- `table s years cs earlier`: the part with, for each constituent in cs, a line with its name and
+-- then `years` values of the kind s; its value is the numbers in `earlier` and then the new ones
 unfoldable pub table : Scale → ℕ → List Constituent → List ℤ → Part (List ℤ)
 table s years [] earlier ls = Ok (earlier, ls)
 table s years (c ∷ cs) earlier ls = do
@@ -71,12 +75,14 @@ table s years (c ∷ cs) earlier ls = do
   more ← values s years earlier name.1
   table s years cs more.0 more.1
 
--- a part with the amplitude and the epoch of each constituent, which are appended to the earlier ones
+-- `pairs cs amplitude epoch`: the part with a station's line for each constituent in cs; its value
+-- is the two lists, amplitudes and epochs, with the new ones at their ends
 unfoldable pub pairs : List Constituent → List ℤ → List ℤ → Part (List ℤ × List ℤ)
 pairs [] amplitude epoch ls = Ok ((amplitude, epoch), ls)
 pairs (c ∷ cs) amplitude epoch ls = one (pair_of c.name) ls >>= λ p. pairs cs (amplitude ++ p.0.0 ∷ []) (epoch ++ p.0.1 ∷ []) p.1
 
--- one station: its name, local time, datum, and the constants of each constituent
+-- the part with one station: lines with its name, its local time and its datum, and a line with the
+-- amplitude and the epoch of each constituent in the list
 unfoldable pub station : List Constituent → Part Station
 station cs ls = do
   name ← one station_name_of ls
@@ -96,18 +102,21 @@ station cs ls = do
     pair.1,
   )
 
--- the most stations that a harmonics file may have
+-- the greatest number of stations that a file may have
 unfoldable pub most_stations : ℕ
 most_stations = 20000
 
--- the stations up to the end of the file, at most `remaining` of them, which are appended to the
--- earlier ones
+-- `stations remaining cs earlier lines`: the stations in `earlier` and then the stations in the
+-- lines, which are the rest of the file. TooManyStations at the first line after `remaining`
+-- stations, LineTooLong if this line is too long.
 unfoldable pub stations : ℕ → List Constituent → List Station → List Line → Result (List Station) (Option At)
 stations remaining cs earlier [] = Ok earlier
 stations zero cs earlier (l ∷ ls) = at_line l.number (checked (λ text. Err TooManyStations) l.text)
 stations (suc remaining) cs earlier (l ∷ ls) = station cs (l ∷ ls) >>= λ s. stations remaining cs (earlier ++ s.0 ∷ []) s.1
 
--- the book of the ten parts of a file, in order
+-- the book in the lines of a file that aren't skipped: the number of constituents, the
+-- constituents, the first year, the number of years, the equilibrium arguments, `*END*`, the number
+-- of years again, the node factors, `*END*`, and the stations
 unfoldable pub book : List Line → Result Book (Option At)
 book ls = do
   count ← one count_of ls
@@ -122,22 +131,26 @@ book ls = do
   all ← stations most_stations cs.0 [] second_end.1
   Ok (record { constituents = cs.0; first_year = first_year.0; years = years.0; angles = angles.0; factors = factors.0; stations = all })
 
--- a part that requires a line and finds none fails with CutShort at the line after the last
+-- `cut_short end read`: the result with None, which means that the lines end too early, replaced by
+-- CutShort at the line with the number `end`
 abbrev pub cut_short : {A : Type 0} → ℕ → Result A (Option At) → Result A At
 cut_short end (Ok x) = Ok x
 cut_short end (Err None) = Err (record { line = end; why = CutShort })
 cut_short end (Err (Some fault)) = Err fault
 
--- the book that a file's bytes contain, or its first fault
+-- the book in the bytes of a harmonics file, or the fault of the first bad line; CutShort, at the
+-- number after the last line's, if the file ends too early
 unfoldable pub book_of : List ℕ → Result Book At
 book_of bytes = let lines = cut bytes in cut_short (1 + length lines) (book (kept (numbered 1 lines)))
 
--- A returned error is the fault of the definition, unless it is out of memory.
+-- `FailsBook fault read`: true if `fault` is NoMemory (memory ran out), or if `read`, the result by
+-- definition, is the error `fault`
 abbrev pub FailsBook : BookFault → Result Book At → Type 0
 FailsBook NoMemory read = Unit {0}
 FailsBook (faults.At line why) read = read ≡ Err (record { line = line; why = why })
 
--- A result is the book or the fault of the definition, unless it is out of memory.
+-- `ReturnsBook result read`: true if the function's result is `read`, the result by definition, or
+-- is the error NoMemory (memory ran out)
 abbrev pub ReturnsBook : Result Book BookFault → Result Book At → Type 0
 ReturnsBook (Ok b) read = read ≡ Ok b
 ReturnsBook (Err e) read = FailsBook e read

@@ -1,5 +1,5 @@
--- The rules for each line of a harmonics file (XTide's text harmonics file; this project). A rule reads
--- the text of a line.
+-- The rule for each kind of line in a harmonics file (XTide's text harmonics file; this project). A
+-- rule takes the text of a line, without its end, and gives its value or the reason why it is bad.
 use Rattle.std.specs.Prelude.{
   ℕ,
   zero,
@@ -66,63 +66,69 @@ use Rattle.harmonics_text.specs.declared.scale.Scale.TheVariants.{Speed, Angle, 
 use Rattle.harmonics_text.specs.declared.local_time.LocalTime.{LocalTime}
 use Rattle.harmonics_text.specs.Lines.{tokens, only, only_two, trimmed}
 
--- the value of an option, or this fault if there is none
+-- the value x of an option, or the error `why` if the option is None
 abbrev pub or_fault : {A : Type 0} → Why → Option A → Result A Why
 or_fault why None = Err why
 or_fault why (Some x) = Ok x
 
 -- ---- numbers
 
--- the decimal places of each scale: speeds, arguments and epochs in ten-millionths of a degree, factors
--- and heights in millionths
+-- how many decimal places count in a number of each kind: 7 for speeds and angles (equilibrium
+-- arguments, epochs), 6 for node factors and heights (datums, amplitudes)
 abbrev pub places_of : Scale → ℕ
 places_of Speed = 7
 places_of Angle = 7
 places_of Factor = 6
 places_of Height = 6
 
--- the least value of a number of each scale, in its unit: ten-millionths of a degree (or a degree an
--- hour), or millionths
+-- the least number of each kind in its unit: speeds from 0 and angles from -720 degrees, in
+-- ten-millionths of a degree (for speeds, an hour); node factors from 0 and heights from -10,000,
+-- in millionths
 abbrev pub least_of : Scale → ℤ
 least_of Speed = pos 0
 least_of Angle = negsuc 7199999999
 least_of Factor = pos 0
 least_of Height = negsuc 9999999999
 
--- the greatest value of a number of each scale, in its unit: ten-millionths of a degree (or a degree an
--- hour), or millionths
+-- the greatest number of each kind in its unit: speeds to 360 degrees an hour and angles to 720
+-- degrees, in ten-millionths of a degree (for speeds, an hour); node factors to 10 and heights to
+-- 10,000, in millionths
 abbrev pub most_of : Scale → ℤ
 most_of Speed = pos 3600000000
 most_of Angle = pos 7200000000
 most_of Factor = pos 10000000
 most_of Height = pos 10000000000
 
--- a decimal in the range of its scale; bad form and length are reported first, then the places, then the
--- range
+-- `in_scale s read`: the number in `read`, the result of reading a decimal, if it is from the least
+-- to the greatest number of the kind s, else OutOfRange. A bad form and more than 18 digits before
+-- the point become BadNumber.
 unfoldable pub in_scale : Scale → Result ℤ DecimalFault → Result ℤ Why
 in_scale s (Ok n) = if int_lt n (least_of s) || int_lt (most_of s) n then Err OutOfRange else Ok n
 in_scale s (Err decimals.TooFine) = Err TooFine
 in_scale s (Err decimals.BadForm) = Err BadNumber
 in_scale s (Err decimals.TooLong) = Err BadNumber
 
--- the decimal that a text writes, in the unit and in the range of its scale, or the reason why it is
--- bad
+-- `parse_number s text`: the decimal that the text writes, as a whole number in the unit of the
+-- kind s (Speed, Angle, Factor or Height), or BadNumber, TooFine or OutOfRange, the first that
+-- applies
 unfoldable pub parse_number : Scale → List ℕ → Result ℤ Why
 parse_number s text = in_scale s (read_of text (places_of s))
 
--- the number of a line that has one token, of one to nine digits
+-- the number in a line that is one token of one to nine digits; None for any other line
 unfoldable pub whole_of : List ℕ → Option ℕ
 whole_of text = option_and_then (digits_of 9) (only (tokens text))
 
--- the number n, or this fault if it isn't from `least` to `most`, both included
+-- `from_to least most why n`: n if it is from `least` to `most`, both included, else the error
+-- `why`
 unfoldable pub from_to : ℕ → ℕ → Why → ℕ → Result ℕ Why
 from_to least most why n = if nat_le least n && nat_le n most then Ok n else Err why
 
--- the number of constituents or years of a line, from 1 to 500, or BadCount
+-- the number of constituents or years in a line, from 1 to 500, or BadCount
 unfoldable pub count_of : List ℕ → Result ℕ Why
 count_of text = or_fault BadCount (whole_of text) >>= from_to 1 500 BadCount
 
--- the first year of a line, from 2 to 8800, or the reason why it is bad
+-- the first calendar year in a line, from 2 to 8800: BadNumber if the line isn't one token of one
+-- to nine digits, OutOfRange if the number isn't in this range
 unfoldable pub first_year_of : List ℕ → Result ℤ Why
 first_year_of text = do
   n ← or_fault BadNumber (whole_of text)
@@ -131,32 +137,36 @@ first_year_of text = do
 
 -- ---- names
 
--- a byte of a name in ISO 8859-1: printable ASCII, the space, or from 128 on
+-- true if a name may have this byte of ISO 8859-1: if it is from 32 to 126 or from 128 to 255
 abbrev pub is_latin_name_byte : ℕ → Bool
 is_latin_name_byte b = (nat_le 32 b && nat_le b 126) || (nat_le 128 b && nat_le b 255)
 
--- a name of 1 to `most` bytes of ISO 8859-1, as UTF-8, or BadName
+-- `name_of most latin`: the name of 1 to `most` bytes of ISO 8859-1, as UTF-8; BadName if its
+-- length is another or it has a byte below 32 or the byte 127
 unfoldable pub name_of : ℕ → List ℕ → Result (List ℕ) Why
 name_of most latin =
     if nat_le 1 (length latin) && nat_le (length latin) most && list_all is_latin_name_byte latin
     then Ok (encode_utf8_all latin) else Err BadName
 
--- `latin` is `name` in ISO 8859-1
+-- `is_name latin name`: true if `latin`, in ISO 8859-1, is the same text as `name`, in UTF-8
 abbrev pub is_name : List ℕ → List ℕ → Bool
 is_name latin name = bytes_eq (encode_utf8_all latin) name
 
--- the token of an absent constituent is `x`, and the token that ends a part is `*END*`
+-- true if the token is `x`, which stands for a constituent's name in a station's line if the
+-- station doesn't have this constituent
 abbrev pub is_absent : List ℕ → Bool
 is_absent token = bytes_eq token (codes "x")
 
+-- true if the token is `*END*`, the line after each of the two tables
 abbrev pub is_end : List ℕ → Bool
 is_end token = bytes_eq token (codes "*END*")
 
--- a constituent has this name
+-- `has_name cs name`: true if a constituent in the list cs has this name
 abbrev pub has_name : List Constituent → List ℕ → Bool
 has_name cs name = list_any (λ c. bytes_eq c.name name) cs
 
--- a constituent's name that no earlier constituent has, as UTF-8, or BadName
+-- `new_name_of earlier token`: the name in the token, of 1 to 32 bytes, as UTF-8; BadName if it is
+-- `x`, `*END*` or the name of a constituent in `earlier`, or isn't a name
 unfoldable pub new_name_of : List Constituent → List ℕ → Result (List ℕ) Why
 new_name_of earlier token =
     if is_absent token || is_end token then Err BadName
@@ -164,7 +174,9 @@ new_name_of earlier token =
 
 -- ---- the lines
 
--- the constituent of a line's tokens: a new name and a speed
+-- `constituent_from earlier tokens`: the constituent with the name in the first token and the speed
+-- in the second; BadName for the name, else BadNumber if there isn't exactly one token after it,
+-- else the fault of the speed
 unfoldable pub constituent_from : List Constituent → List (List ℕ) → Result Constituent Why
 constituent_from earlier [] = Err BadName
 constituent_from earlier (first ∷ rest) = do
@@ -173,28 +185,34 @@ constituent_from earlier (first ∷ rest) = do
   n ← parse_number Speed second
   Ok (record { name = name; speed = n })
 
--- the constituent of a line, its name and its speed, or the reason why the line is bad
+-- `constituent_of earlier text`: the constituent in a line, whose tokens are a name that no
+-- constituent in `earlier` has and a speed in degrees an hour, or the reason why the line is bad
 unfoldable pub constituent_of : List Constituent → List ℕ → Result Constituent Why
 constituent_of earlier text = constituent_from earlier (tokens text)
 
--- this fault unless the condition is true
+-- success if the condition is true, else the error `why`
 abbrev pub if_true : Bool → Why → Result (Unit {0}) Why
 if_true true why = Ok tt
 if_true false why = Err why
 
--- the rule for a line that must be the name of the expected constituent and nothing else
+-- `named name text`: success if the line is this constituent's name and nothing else, else
+-- WrongConstituent
 unfoldable pub named : List ℕ → List ℕ → Result (Unit {0}) Why
 named name text = or_fault WrongConstituent (only (tokens text)) >>= λ token. if_true (is_name token name) WrongConstituent
 
--- the rule for a line that must be `*END*` and nothing else
+-- success if the line is `*END*` and nothing else, else NoEnd
 unfoldable pub end_of : List ℕ → Result (Unit {0}) Why
 end_of text = or_fault NoEnd (only (tokens text)) >>= λ token. if_true (is_end token) NoEnd
 
--- the rule for a line that must have the number of years of the first table
+-- `same_count_of years text`: success if the line is the number `years`; BadCount if it isn't a
+-- number from 1 to 500, YearsDiffer if it is another one
 unfoldable pub same_count_of : ℕ → List ℕ → Result (Unit {0}) Why
 same_count_of years text = count_of text >>= λ n. if_true (n == years) YearsDiffer
 
--- after reading some tokens as values: the number of values still to be read, and the values read
+-- `values_from s remaining values tokens`: reads each token as a value of the kind s; gives how
+-- many of the `remaining` values are still to be read, and the values with the new ones at their
+-- end. BadNumber if there are more than `remaining` tokens; the fault of a bad value comes first if
+-- it stands before.
 unfoldable pub values_from : Scale → ℕ → List ℤ → List (List ℕ) → Result (ℕ × List ℤ) Why
 values_from s remaining values [] = Ok (remaining, values)
 values_from s zero values (token ∷ more) = Err BadNumber
@@ -202,48 +220,57 @@ values_from s (suc remaining) values (token ∷ more) = parse_number s token >>=
 
 -- ---- a station's lines
 
--- the name of a station: the line without white space at both ends
+-- the name of a station in UTF-8: the line without the spaces and tabs at both ends, of 1 to 200
+-- bytes, or BadName
 unfoldable pub station_name_of : List ℕ → Result (List ℕ) Why
 station_name_of text = name_of 200 (trimmed text)
 
+-- true if the byte is a colon
 abbrev pub is_colon : ℕ → Bool
 is_colon b = b == 58
 
--- the number that a text of exactly two digits writes, or None
+-- the number that a text of exactly two digits writes; None for any other text
 unfoldable pub two_digits_of : List ℕ → Option ℕ
 two_digits_of text = if length text == 2 then digits_of 2 text else None
 
--- the minutes of an hour from 0 to 15 and a minute from 0 to 59, or None
+-- `minutes_of hour minute`: 60 times the hour plus the minute; None if one is None, the hour
+-- exceeds 15 or the minute exceeds 59
 unfoldable pub minutes_of : Option ℕ → Option ℕ → Option ℕ
 minutes_of None minute = None
 minutes_of (Some hour) None = None
 minutes_of (Some hour) (Some minute) = if nat_le hour 15 && nat_le minute 59 then Some (60 * hour + minute) else None
 
--- the minutes of a clock time: one or two digits, a colon, two digits
+-- the minutes, from 0 to 959, of a clock time: one or two digits of the hour, a colon, two digits
+-- of the minute; None for any other text
 unfoldable pub clock_of : List ℕ → Option ℕ
 clock_of text =
     if nat_lt (position_or_len is_colon text) (length text)
     then minutes_of (digits_of 2 (before_first is_colon text)) (two_digits_of (after_first is_colon text))
     else None
 
--- the minutes of a meridian, such as `-5:00`, positive east of Greenwich, or BadMeridian
+-- the meridian in a token such as `-5:00`, in minutes, from -959 to 959: local time less universal
+-- time, positive east of Greenwich; BadMeridian if the token isn't a sign, which may be missing,
+-- and a clock time
 unfoldable pub meridian_of : List ℕ → Result ℤ Why
 meridian_of token =
     or_fault BadMeridian (clock_of (without_leading_sign token)) >>= λ n.
     Ok (if starts_with_minus token then neg_ℤ (pos n) else pos n)
 
--- a byte of a zone's name: a byte of a name other than the space
+-- true if a zone's name may have this byte of ISO 8859-1: if it is from 33 to 126 or from 128 to
+-- 255
 abbrev pub is_zone_byte : ℕ → Bool
 is_zone_byte b = (nat_le 33 b && nat_le b 126) || (nat_le 128 b && nat_le b 255)
 
--- the name of a zone as UTF-8, without one colon before it, or BadMeridian
+-- the name of a time zone in UTF-8, without the colon that the token may begin with; BadMeridian if
+-- the token has more than 100 bytes or a byte that a zone's name can't have
 unfoldable pub zone_of : List ℕ → Result (List ℕ) Why
 zone_of token =
     if nat_le (length token) 100 && list_all is_zone_byte token
     then Ok (encode_utf8_all (if starts_with nat_eq token (codes ":") then drop 1 token else token))
     else Err BadMeridian
 
--- the meridian and the zone, which may be missing, of a line's tokens
+-- the meridian in the first of a line's tokens and the zone in the second, or no zone's name if
+-- there is one token; BadMeridian if one is bad or there isn't one token or two
 unfoldable pub local_time_from : List (List ℕ) → Result LocalTime Why
 local_time_from [] = Err BadMeridian
 local_time_from (first ∷ []) = meridian_of first >>= λ m. Ok (record { meridian = m; zone = [] })
@@ -253,11 +280,11 @@ local_time_from (first ∷ second ∷ []) = do
   Ok (record { meridian = m; zone = zone })
 local_time_from (first ∷ second ∷ third ∷ more) = Err BadMeridian
 
--- the meridian, in minutes, and the zone of a line, or BadMeridian
+-- the meridian, in minutes, and the zone in a line, whose zone may be missing, or BadMeridian
 unfoldable pub local_time_of : List ℕ → Result LocalTime Why
 local_time_of text = local_time_from (tokens text)
 
--- the unit that a token names, or BadUnits
+-- the unit that a token names: feet, meters, knots or knots^2; else BadUnits
 unfoldable pub units_of : List ℕ → Result Units Why
 units_of token =
     if bytes_eq token (codes "feet") then Ok Feet
@@ -266,8 +293,8 @@ units_of token =
     else if bytes_eq token (codes "knots^2") then Ok KnotsSquared
     else Err BadUnits
 
--- the datum (mean level) of a line, in millionths of its unit, and this unit, or the reason why the
--- line is bad
+-- the datum (mean level) in a line, in millionths of its unit, and the unit: BadUnits if the line
+-- doesn't have exactly two tokens, else the fault of the number, else BadUnits for the unit
 unfoldable pub datum_of : List ℕ → Result (ℤ × Units) Why
 datum_of text = do
   both ← or_fault BadUnits (only_two (tokens text))
@@ -275,8 +302,10 @@ datum_of text = do
   units ← units_of both.1
   Ok (n, units)
 
--- the amplitude, in millionths of the station's unit, and the epoch, in ten-millionths of a degree, of
--- a line's tokens; both are 0 for an absent constituent
+-- `pair_from name tokens`: the amplitude, in millionths of the station's unit, and the epoch, in
+-- ten-millionths of a degree, after the constituent's name; both are 0 after `x`. WrongConstituent
+-- if the first token is neither, else BadNumber if there aren't exactly two more, else the fault of
+-- the amplitude, else of the epoch.
 unfoldable pub pair_from : List ℕ → List (List ℕ) → Result (ℤ × ℤ) Why
 pair_from name [] = Err WrongConstituent
 pair_from name (first ∷ rest) = do
@@ -286,7 +315,8 @@ pair_from name (first ∷ rest) = do
   epoch ← parse_number Angle both.1
   Ok (if is_absent first then (pos 0, pos 0) else (amplitude, epoch))
 
--- the amplitude, in millionths of the station's unit, and the epoch, in ten-millionths of a degree, of
--- a line for the constituent `name`, or the reason why the line is bad
+-- `pair_of name text`: the amplitude, in millionths of the station's unit, and the epoch, in
+-- ten-millionths of a degree, in a station's line for the constituent `name`, or the reason why the
+-- line is bad
 unfoldable pub pair_of : List ℕ → List ℕ → Result (ℤ × ℤ) Why
 pair_of name text = pair_from name (tokens text)

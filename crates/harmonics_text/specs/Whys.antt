@@ -1,4 +1,4 @@
--- The numbers and the texts of the faults of a line (this project).
+-- The number and the text of each reason why a line of a harmonics file is bad (this project).
 use Rattle.std.specs.Prelude.{ℕ, List, codes}
 use Rattle.harmonics_text.specs.declared.fault.Why.{Why}
 use Rattle.harmonics_text.specs.declared.fault.Why.TheVariants.{
@@ -17,7 +17,7 @@ use Rattle.harmonics_text.specs.declared.fault.Why.TheVariants.{
   LineTooLong,
 }
 
--- the number of each reason in the file format
+-- the number of a reason in docs/FORMATS.md, from 1 to 13
 abbrev pub fault_number : Why → ℕ
 fault_number BadCount = 1
 fault_number BadName = 2
@@ -33,7 +33,7 @@ fault_number CutShort = 11
 fault_number TooManyStations = 12
 fault_number LineTooLong = 13
 
--- the text that is printed for each reason
+-- the text that error messages have for a reason
 abbrev pub text_of : Why → List ℕ
 text_of BadCount = codes "bad count"
 text_of BadName = codes "bad name"

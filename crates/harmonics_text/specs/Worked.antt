@@ -1,5 +1,5 @@
--- A small file with the book `pier_book` of harmonics_book, and the faults of changed copies (this
--- project).
+-- Examples: a small harmonics file, the book in which is `pier_book` of harmonics_book, and copies
+-- of it with one bad line (this project).
 use Rattle.std.specs.Prelude.{ℕ, ◌-◌, List, [], ◌∷◌, ◌++◌, codes, slice_set}
 use Rattle.harmonics_text.specs.declared.fault.Why.{Why}
 use Rattle.harmonics_text.specs.declared.fault.Why.TheVariants.{
@@ -15,33 +15,36 @@ use Rattle.harmonics_text.specs.declared.fault.Why.TheVariants.{
   BadUnits,
 }
 
--- the lines of a harmonics file with one constituent and one station, each without its LF
+-- the lines of the file, without their LFs: a comment, one constituent (S2), the years 1999 to 2001
+-- and one station
 abbrev pub pier_lines : List (List ℕ)
 pier_lines =
     codes "# Pier test" ∷ codes "1" ∷ codes "S2 30.0000000" ∷ codes "1999" ∷ codes "3"
     ∷ codes "S2" ∷ codes "0 0 0" ∷ codes "*END*" ∷ codes "3" ∷ codes "S2" ∷ codes "1 1 1" ∷ codes "*END*"
     ∷ codes "Pier" ∷ codes "0:00 :UTC" ∷ codes "0 feet" ∷ codes "S2 1 0" ∷ []
 
--- the bytes of a file with these lines, each with its LF
+-- the bytes of a file with these lines, each with an LF after it
 abbrev pub file_of : List (List ℕ) → List ℕ
 file_of [] = []
 file_of (line ∷ lines) = line ++ 10 ∷ file_of lines
 
--- a change of the file: the number of a line, its new text, and the fault of the changed file
+-- a change of one line: its number, its new text, and the fault of the changed file, which is at
+-- the line `at` with the reason `why`
 pub record Change : Type 0 where
   pub line : ℕ
   pub text : List ℕ
   pub at : ℕ
   pub why : Why
 
+-- the change with these four fields, in this order
 abbrev pub change : ℕ → List ℕ → ℕ → Why → Change
 change line text at why = record { line = line; text = text; at = at; why = why }
 
--- the file with one line changed
+-- the bytes of the small file with one line changed
 abbrev pub pier_with : Change → List ℕ
 pier_with c = file_of (slice_set pier_lines (c.line - 1) c.text)
 
--- one-line changes of the file, each with the fault of the changed file: at least one for each reason
+-- changes of one line that make the file bad, each with the fault: at least one for each reason
 -- from BadCount to BadUnits
 abbrev pub changes : List Change
 changes =

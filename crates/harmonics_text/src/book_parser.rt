@@ -1,4 +1,4 @@
-//! The parser state of a book that is read line by line.
+//! The state of a parser that reads a harmonics file line by line into a book.
 
 ghost use Rattle.std.specs.Prelude.{◌≡◌, ◌+◌, ◌<◌, ◌≤◌, ◌^◌, ◌++◌, ◌∷◌, length, false, nat_lt, IfOk, MatchResult};
 ghost use Rattle.harmonics_text.specs.Workings.Readers.{has_lf};
@@ -37,29 +37,42 @@ use harmonics_book::{Book, Constituents, Stations};
 use std::alloc::{AllocError, Global};
 use std::mem;
 
-/// The parser state: the parts of the book read until now, which determine the form of the next line.
+/// The state of reading a harmonics file: the line that is expected next, which names the variant,
+/// and the values of the lines before it. Comments and blank lines change nothing.
 #[derive(Drop)]
 pub enum BookParser {
+    /// The number of constituents is expected; nothing was read before.
     Count,
-    /// Constituents are being read: the number still to be read, at least one, and the constituents
-    /// read until now.
+    /// A constituent is expected. The fields are the number of constituents still to be read, at
+    /// least one, and the constituents read before.
     Constituents(u32, Constituents),
+    /// The first calendar year is expected.
     FirstYear(Constituents),
+    /// The number of years is expected; the second field is the first year.
     Years(Constituents, i32),
+    /// A line of the table of equilibrium arguments is expected.
     Angles(Heading, Table),
+    /// The `*END*` after the equilibrium arguments is expected.
     AnglesEnd(Heading, Numbers),
+    /// The number of years is expected a second time, before the node factors.
     YearsAgain(Heading, Numbers),
+    /// A line of the table of node factors is expected; the second field has the equilibrium
+    /// arguments.
     Factors(Heading, Numbers, Table),
+    /// The second `*END*` is expected; the fields end with the arguments and the factors.
     FactorsEnd(Heading, Numbers, Numbers),
+    /// A line of a station is expected. The fields are the book with the complete stations, and the
+    /// lines read of the incomplete one.
     Stations(Book, Record),
 }
 
 impl BookParser {
-    /// Reads the next line of the file.
+    /// Reads `line`, the next line of the file without its LF. Comments and blank lines leave the
+    /// state unchanged. After an error the state is unspecified.
     ///
     /// # Errors
-    /// [`LineFault::Bad`] with the first rule that the line breaks; [`LineFault::NoMemory`] if memory
-    /// runs out.
+    /// [`LineFault::Bad`]: with the first rule that the line breaks. [`LineFault::NoMemory`]: if
+    /// memory runs out.
     #[tactic(auto, unfolding(crate::specs::Workings::BookParsing::after_line))]
     fn add_line(&mut self, alloc: Global, line: &[u8]) -> Result<(), LineFault>
         requires { IsBookParser self.old }
@@ -78,12 +91,14 @@ impl BookParser {
         self.add_text(alloc, text)
     }
 
-    /// Reads `line`, without its LF, and the lines of absent constituents that `rest`, the bytes after
-    /// it, begins with. Returns the number of lines read after `line`, and the bytes after them.
+    /// Reads `line`, the next line without its LF. If lines `x 0 0` (a constituent that the station
+    /// doesn't have) follow at the start of `rest`, the bytes after the LF, it may read some of
+    /// them too, all at once. Returns how many lines it read after `line`, and the bytes of `rest`
+    /// after them. After an error the state is unspecified.
     ///
     /// # Errors
-    /// [`LineFault::Bad`] with the first rule that `line` breaks; [`LineFault::NoMemory`] if memory runs
-    /// out.
+    /// [`LineFault::Bad`]: with the first rule that `line` breaks. [`LineFault::NoMemory`]: if
+    /// memory runs out.
     pub fn add_lines<'a>(
         &mut self,
         alloc: Global,
@@ -103,8 +118,8 @@ impl BookParser {
         Ok((absent as u32, after))
     }
 
-    /// Reads the lines of absent constituents that `bytes` begins with, or none of them. Returns their
-    /// count and the bytes after them.
+    /// Reads some or none of the lines `x 0 0` (a constituent that the station doesn't have) at the
+    /// start of `bytes`. Returns the number of lines read and the bytes after them.
     fn add_absent<'a>(&mut self, bytes: &'a [u8]) -> Result<(usize, &'a [u8]), AllocError>
         requires { IsBookParser self.old }
         ensures read { IfOk result (λ r. HasRead self.old self.new r.0 bytes.now r.1.now) }
@@ -116,8 +131,9 @@ impl BookParser {
         Ok((0, bytes))
     }
 
-    /// Reads a line that isn't a comment. A line of a station is read without moving the book, and a
-    /// line of a table without moving the table if it can't be the last one.
+    /// Reads `text`, the next line without its end; it is neither a comment nor blank. A line of a
+    /// station is read without moving the book. A line of a table is read without moving the table
+    /// unless the table may end with it. After an error the state is unspecified.
     fn add_text(&mut self, alloc: Global, text: &[u8]) -> Result<(), LineFault>
         requires { IsBookParser self.old }
         ensures { Follows (λ _. self.new) result (after_text self.old text.now) }
@@ -138,8 +154,9 @@ impl BookParser {
         self.move_on(alloc, text)
     }
 
-    /// Moves to the state after a line that isn't a comment. A separate function from `add_text`, so
-    /// that what is moved needs no room on its stack, which would be cleared for each line of a station.
+    /// Does what `add_text` does, for any state, by moving the state. It is a separate function, so
+    /// that `add_text` needs no stack space for the moved state, which would be cleared for each
+    /// line of a station.
     #[inline(never)]
     fn move_on(&mut self, alloc: Global, text: &[u8]) -> Result<(), LineFault>
         requires { IsBookParser self.old }
@@ -150,7 +167,7 @@ impl BookParser {
         Ok(())
     }
 
-    /// Returns the state after a line that isn't a comment.
+    /// Returns the state after `text`, a line without its end that is neither a comment nor blank.
     #[tactic(auto, unfolding(crate::specs::Workings::BookParsing::after_text, crate::specs::Workings::BookParsing::after_count))]
     fn after_text(self, alloc: Global, text: &[u8]) -> Result<BookParser, LineFault>
         requires { IsBookParser self }
@@ -192,7 +209,8 @@ impl BookParser {
         }
     }
 
-    /// Returns the book if the file may end here, with no station begun, and otherwise `None`.
+    /// Returns the book if the file may end here, which is so after a complete station, or before
+    /// the first one but after the second `*END*`. Returns `None` in any other state.
     pub fn into_book(self) -> Option<Book>
         ensures { result ≡ book_in self }
     {
@@ -210,7 +228,7 @@ impl BookParser {
     }
 }
 
-/// Returns true if, in `table`, another constituent's values follow the next ones.
+/// Returns true if the constituent whose values `table` expects isn't the last one of `heading`.
 fn has_more(heading: &Heading, table: &Table) -> bool
     requires here { table.now.index < length heading.now.constituents }
     requires count_bound { length heading.now.constituents ≤ 500 }
@@ -219,7 +237,7 @@ fn has_more(heading: &Heading, table: &Table) -> bool
     table.index + 1 < heading.constituents.as_slice().len()
 }
 
-/// Returns true if no station is incomplete.
+/// Returns true if no line of an incomplete station was read.
 fn is_complete(begun: &Record) -> bool
     ensures { (book : Book) → then_some result book ≡ book_at book begun.now }
 {
@@ -229,6 +247,8 @@ fn is_complete(begun: &Record) -> bool
     }
 }
 
+/// Checks that the line `text` is the token `*END*` and nothing else; otherwise the fault is
+/// [`Why::NoEnd`].
 #[tactic(auto, unfolding(crate::specs::Rules::end_of))]
 fn check_end(text: &[u8]) -> Result<(), LineFault>
     ensures { Follows (λ u. u) result (end_of text.now) }
@@ -243,6 +263,8 @@ fn check_end(text: &[u8]) -> Result<(), LineFault>
     }
 }
 
+/// Returns the state after `text`, the line of a constituent; `remaining` counts the constituents
+/// still to be read, this one included.
 #[tactic(auto, unfolding(crate::specs::Workings::BookParsing::after_constituent))]
 fn after_constituent(
     alloc: Global,
@@ -261,6 +283,7 @@ fn after_constituent(
     }
 }
 
+/// Returns the state after `text`, the line with the number of years of the first table.
 #[tactic(auto, unfolding(crate::specs::Workings::BookParsing::after_years))]
 fn after_years(
     alloc: Global,
@@ -279,6 +302,8 @@ fn after_years(
     Ok(BookParser::Angles(heading, start_table(alloc)))
 }
 
+/// Returns the state with `table`, the equilibrium arguments read until now: `*END*` is expected
+/// next if it is complete, else its next line.
 fn with_angles(heading: Heading, table: Table) -> BookParser
     ensures { result ≡ with_angles heading table }
 {
@@ -289,6 +314,7 @@ fn with_angles(heading: Heading, table: Table) -> BookParser
     }
 }
 
+/// Returns the state after `text`, a line of the table of equilibrium arguments.
 #[tactic(auto, unfolding(crate::specs::Workings::BookParsing::after_angles))]
 fn after_angles(heading: Heading, mut table: Table, text: &[u8]) -> Result<BookParser, LineFault>
     requires here { table.index < length heading.constituents }
@@ -299,6 +325,8 @@ fn after_angles(heading: Heading, mut table: Table, text: &[u8]) -> Result<BookP
     read.and(Ok(with_angles(heading, table)))
 }
 
+/// Checks that the line `text` is the number `years`; the fault is [`Why::BadCount`] if it isn't a
+/// number from 1 to 500, and [`Why::YearsDiffer`] if it is another number.
 #[tactic(auto, unfolding(crate::specs::Rules::same_count_of))]
 fn check_years(years: u32, text: &[u8]) -> Result<(), LineFault>
     ensures { Follows (λ u. u) result (same_count_of years text.now) }
@@ -310,6 +338,7 @@ fn check_years(years: u32, text: &[u8]) -> Result<(), LineFault>
     }
 }
 
+/// Returns the state after `text`, the line with the number of years of the second table.
 #[tactic(auto, unfolding(crate::specs::Workings::BookParsing::after_years_again))]
 fn after_years_again(
     alloc: Global,
@@ -323,6 +352,8 @@ fn after_years_again(
     read.and(Ok(BookParser::Factors(heading, angles, start_table(alloc))))
 }
 
+/// Returns the state with `table`, the node factors read until now: `*END*` is expected next if it
+/// is complete, else its next line.
 fn with_factors(heading: Heading, angles: Numbers, table: Table) -> BookParser
     ensures { result ≡ with_factors heading angles table }
 {
@@ -333,6 +364,7 @@ fn with_factors(heading: Heading, angles: Numbers, table: Table) -> BookParser
     }
 }
 
+/// Returns the state after `text`, a line of the table of node factors.
 #[tactic(auto, unfolding(crate::specs::Workings::BookParsing::after_factors))]
 fn after_factors(
     heading: Heading,
@@ -348,7 +380,7 @@ fn after_factors(
     read.and(Ok(with_factors(heading, angles, table)))
 }
 
-/// Returns the book without any station.
+/// Returns the book with these constituents, years and tables, and without a station.
 fn new_book(alloc: Global, heading: Heading, angles: Numbers, factors: Numbers) -> Book
     ensures { result ≡ new_book heading angles factors }
 {

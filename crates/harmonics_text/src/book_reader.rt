@@ -1,4 +1,4 @@
-//! Reading a file of harmonic constants in pieces.
+//! A reader of a harmonics file that gets the file in several slices, one after the other.
 
 ghost use Rattle.std.specs.Prelude.{◌≡◌, ◌+◌, ◌^◌, ◌++◌, ◌<◌, ◌≤◌, [], length, if◌then◌else◌, is_none, IfOk, IfSome, None};
 ghost use Rattle.std.specs.Result.{result_err};
@@ -14,19 +14,20 @@ use harmonics_book::Book;
 use std::alloc::{AllocError, Global};
 use std::marker::Model;
 
-/// A reader of a file that is passed to it in pieces, which may be cut anywhere, also within a comment
-/// or before the last byte of a line. It keeps only the bytes of the line that has not ended, at most
-/// 4,096.
+/// A reader of a harmonics file. Each call of [`BookReader::feed`] passes the next bytes of the
+/// file, which may end anywhere, also within a line. Of a line that has not ended, the reader keeps
+/// the bytes, at most 4,096, or only the `#` if it is a comment.
 ///
-/// In contracts its value is the bytes that it was fed, and the fault that it returned, if any. All
-/// pieces together have at most 400,000,000 bytes.
+/// In contracts its value has two fields: `bytes`, all bytes that were fed, at most 400,000,000,
+/// and `fault`, the fault that `feed` returned, or `None`.
 #[derive(Drop)]
 pub struct BookReader {
     alloc: Global,
-    /// The state of reading after the bytes fed until now, up to the fault.
+    /// The state of reading after all bytes fed until now; after a fault it isn't used.
     progress: Progress,
-    /// The fault that was returned, if any.
+    /// The fault that `feed` returned, or `None`.
     fault: Option<BookFault>,
+    /// All bytes fed until now, which exist only in contracts.
     history: Log<u8>,
 }
 
@@ -42,10 +43,10 @@ impl Model for BookReader {
 }
 
 impl BookReader {
-    /// Returns a reader that was fed no byte.
+    /// Returns a reader that has got no byte yet. It allocates the memory for a line, 4,096 bytes.
     ///
     /// # Errors
-    /// [`AllocError`] if memory runs out.
+    /// [`AllocError`]: if memory runs out.
     pub fn new(alloc: Global) -> Result<BookReader, AllocError>
         ensures { IfOk result (λ r. r ≡ record { bytes = []; fault = None }) }
     {
@@ -58,12 +59,12 @@ impl BookReader {
         })
     }
 
-    /// Reads `piece`, the next bytes of the file.
+    /// Reads `piece`, the next bytes of the file; together with all bytes before they are at most
+    /// 400,000,000. Once it has returned a fault, it returns the same one at each later call.
     ///
     /// # Errors
-    /// [`BookFault::At`] with the first line that breaks a rule, as soon as the reader was fed the LF
-    /// at its end, or more than the 4,096 bytes that a line may have; [`BookFault::NoMemory`] if memory
-    /// runs out. Each later call returns the same fault.
+    /// [`BookFault::At`]: with the first line that breaks a rule, as soon as its LF or its byte
+    /// 4,097 was fed. [`BookFault::NoMemory`]: if memory runs out.
     pub fn feed(&mut self, piece: &[u8]) -> Result<(), BookFault>
         requires { length self.old.bytes + length piece.now ≤ MOST_BYTES }
         ensures fed { self.new.bytes ≡ self.old.bytes ++ piece.now }
@@ -80,12 +81,12 @@ impl BookReader {
         read
     }
 
-    /// Returns the book of all bytes that the reader was fed.
+    /// Ends the file after the bytes fed, and returns its book. The last line needs no LF.
     ///
     /// # Errors
-    /// The [`BookFault`] that a call of [`BookReader::feed`] returned; otherwise [`BookFault::At`] if
-    /// the last line breaks a rule or the file ends too early, and [`BookFault::NoMemory`] if memory
-    /// runs out.
+    /// The fault that [`BookReader::feed`] returned, if it did. Otherwise [`BookFault::At`]: if the
+    /// last line breaks a rule, or, with [`crate::Why::CutShort`], if the file ends too early.
+    /// [`BookFault::NoMemory`]: if memory runs out.
     pub fn finish(self) -> Result<Book, BookFault>
         ensures exact { ReturnsBook result (book_of self.bytes) }
         ensures again { IfSome self.fault (λ fault. result ≡ Err fault) }
@@ -104,10 +105,10 @@ impl BookReader {
         read.and(progress.into_book())
     }
 
-    /// Returns the number of bytes that are kept of the line that has not ended: at most 4,096, and 0
-    /// within a comment or after a fault.
+    /// Returns how many bytes were fed of the line that has not ended, its CR included: from 0 to
+    /// 4,096. In a comment, of which only the `#` is kept, and after a fault it returns 0.
     ///
-    /// The program doesn't call it.
+    /// The program itself doesn't call it.
     pub fn pending(&self) -> u32
         ensures exact { result ≡ (if is_none self.now.fault then pending_length self.now.bytes else 0) }
         ensures count_bound { result ≤ 4096 }

@@ -1,4 +1,4 @@
-//! A list of numbers that grows while a file is read.
+//! A growing list of the numbers of a table or a station.
 
 ghost use Rattle.std.specs.Prelude.{◌≡◌, [], ◌∷◌, ◌++◌, length, pos, replicate, IfOk, OnOk};
 
@@ -6,8 +6,8 @@ use decimal_text::Numbers;
 use std::alloc::{AllocError, Global};
 use std::marker::Model;
 
-/// The numbers read until now from a table or a station of a harmonics file. In contracts its value is
-/// the list of them.
+/// A growing list of whole numbers: the values read until now of a table, or the amplitudes or the
+/// epochs of a station. In contracts its value is the list of these numbers.
 #[derive(Drop)]
 pub struct Column {
     items: Vec<i64>,
@@ -22,7 +22,7 @@ impl Model for Column {
 }
 
 impl Column {
-    /// Returns the empty list. It doesn't allocate.
+    /// Returns an empty list. It doesn't allocate.
     pub fn new(alloc: Global) -> Column
         ensures { result ≡ [] }
     {
@@ -31,10 +31,11 @@ impl Column {
         }
     }
 
-    /// Returns the empty list, with memory for `count` numbers, so that it need not grow.
+    /// Returns an empty list with memory for `count` numbers, so that appending them need not
+    /// allocate.
     ///
     /// # Errors
-    /// [`AllocError`] if memory runs out.
+    /// [`AllocError`]: if memory runs out.
     pub fn with_room(alloc: Global, count: usize) -> Result<Column, AllocError>
         ensures { IfOk result (λ c. c ≡ []) }
     {
@@ -43,17 +44,17 @@ impl Column {
         })
     }
 
-    /// Returns how many numbers the list has.
+    /// Returns the number of items in the list.
     pub fn len(&self) -> usize
         ensures { result ≡ length self.now }
     {
         self.items.len()
     }
 
-    /// Appends `value` to the list.
+    /// Appends `value`.
     ///
     /// # Errors
-    /// [`AllocError`] if memory runs out.
+    /// [`AllocError`]: if memory runs out.
     pub fn push(&mut self, value: i64) -> Result<(), AllocError>
         ensures { OnOk result (self.new ≡ self.old ++ value ∷ []) }
     {
@@ -61,10 +62,11 @@ impl Column {
         Ok(())
     }
 
-    /// Appends `count` zeros to the list.
+    /// Appends `count` zeros.
     ///
     /// # Errors
-    /// [`AllocError`] if memory runs out.
+    /// [`AllocError`]: if memory runs out, or if the list would have more items than a `usize`
+    /// counts.
     pub fn push_zeros(&mut self, count: usize) -> Result<(), AllocError>
         ensures { OnOk result (self.new ≡ self.old ++ replicate count (pos 0)) }
     {
@@ -74,7 +76,7 @@ impl Column {
         self.items.resize(len, 0)
     }
 
-    /// Returns the finished list as [`Numbers`].
+    /// Returns the same numbers as [`Numbers`], a list that doesn't grow. It doesn't allocate.
     pub fn into_numbers(self) -> Numbers
         ensures { result ≡ self }
     {

@@ -1,7 +1,8 @@
-//! The reader of text files of harmonic constants.
+//! The reader of harmonics files: text files of harmonic constants in the format of XTide's tools.
 //!
-//! [`read_book`] reads a [`Book`] from the bytes of a file in the format of XTide's tools, and a
-//! [`BookReader`] reads it piece by piece. The book and its lists are types of the crate
+//! [`read_book`] reads a [`Book`] from the bytes of a whole file, and a [`BookReader`] from slices
+//! of it, one after the other. A file that breaks a rule of the format gives a [`BookFault`], with
+//! the number of the line and the reason. The types of a book are defined in the crate
 //! `harmonics_book`.
 #![tactic(auto)]
 

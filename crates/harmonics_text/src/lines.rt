@@ -1,4 +1,4 @@
-//! The lines of a file and the tokens of a line.
+//! The lines of a file, and the tokens of a line: its parts between spaces and tabs.
 
 ghost use Rattle.std.specs.Prelude.{◌≡◌, ◌<◌, ◌∷◌, ◌++◌, [], codes, length, nat_eq, false, MatchOption, IfSome, position, option_map};
 ghost use Rattle.std.specs.List.{list_all, starts_with};
@@ -20,14 +20,15 @@ ghost use Rattle.harmonics_text.specs.Lines.{
 
 use memchr::memchr;
 
+/// Returns the index of the first LF in `bytes`, or `None` if there isn't one.
 fn lf_at(bytes: &[u8]) -> Option<usize>
     ensures { result ≡ position is_lf bytes.now }
 {
     memchr(b'\n', bytes)
 }
 
-/// Returns the bytes before the first LF of `bytes` and the bytes after it, or `None` if there is no
-/// LF.
+/// Splits `bytes` at its first LF. Returns the bytes before the LF, which are the line, and the
+/// bytes after it, or `None` if `bytes` has no LF.
 #[inline(always)]
 pub fn next_line(bytes: &[u8]) -> Option<(&[u8], &[u8])>
     ensures shorter { IfSome result (λ r. length r.1.now < length bytes.now) }
@@ -38,21 +39,22 @@ pub fn next_line(bytes: &[u8]) -> Option<(&[u8], &[u8])>
     Some((line, rest.split_at(1).1))
 }
 
-/// Returns true if `line` is a comment: if it begins with `#`.
+/// Returns true if `line` is a comment, which begins with `#`.
 pub fn is_comment(line: &[u8]) -> bool
     ensures { result ≡ is_comment line.now }
 {
     line.starts_with(b"#".as_slice())
 }
 
-/// Returns true if `line` has more than 4,096 bytes, which only a comment may have.
+/// Returns true if `line`, without its LF, has more than 4,096 bytes. Only a comment may have more.
 pub fn is_too_long(line: &[u8]) -> bool
     ensures { result ≡ is_too_long line.now }
 {
     line.len() > 4096
 }
 
-/// Returns `line` without the CR at its end, if it has one.
+/// Returns `line` without the CR at its end. If it ends with several, one is removed; if it ends
+/// with none, the result is `line`.
 pub fn without_cr(line: &[u8]) -> &[u8]
     ensures { result.now ≡ without_cr line.now }
 {
@@ -70,21 +72,22 @@ pub fn is_blank(b: u8) -> bool
     b == b' ' || b == b'\t'
 }
 
-/// Returns true if `text` has only spaces and tabs.
+/// Returns true if each byte of `text` is a space or a tab, also if `text` is empty.
 pub fn is_all_blank(text: &[u8]) -> bool
     ensures { result ≡ list_all is_blank text.now }
 {
     text.iter().all(|b| is_blank(*b))
 }
 
-/// Returns the index of the first byte of `text` that isn't a space or a tab, or `None` if there isn't
-/// one.
+/// Returns the index of the first byte of `text` that is neither a space nor a tab, or `None` if
+/// there is no such byte.
 pub fn visible_at(text: &[u8]) -> Option<usize>
     ensures { result ≡ position is_visible text.now }
 {
     text.iter().position(|b| !is_blank(*b))
 }
 
+/// Returns the index of the first space or tab in `text`, or `None` if there is none.
 fn blank_at(text: &[u8]) -> Option<usize>
     ensures { result ≡ position is_blank text.now }
 {
@@ -98,8 +101,9 @@ fn is_padded(text: &[u8]) -> bool
     text.starts_with(b"    ".as_slice())
 }
 
-/// Returns `text` without its first spaces, removed four at a time, so that up to three may remain.
-/// Names of constituents are padded with spaces, mostly twelve or more.
+/// Returns `text` after some of the spaces at its start, four at a time, so that up to three
+/// remain. The tokens stay the same. It is called for the bytes after a constituent's name, which
+/// XTide's tools pad with spaces to a fixed width: twelve spaces or more follow most names.
 pub fn without_padding(text: &[u8]) -> &[u8]
     ensures { tokens result.now ≡ tokens text.now }
 {
@@ -110,8 +114,8 @@ pub fn without_padding(text: &[u8]) -> &[u8]
     rest
 }
 
-/// Returns the first token of `text` (its bytes up to a space or a tab, without such bytes before it)
-/// and the bytes after it, or `None` if `text` has only spaces and tabs.
+/// Returns the first token of `text`, without the spaces and tabs before it, and the bytes after
+/// the token. Returns `None` if `text` has only spaces and tabs, or no byte.
 pub fn next_token(text: &[u8]) -> Option<(&[u8], &[u8])>
     ensures shorter { IfSome result (λ r. length r.1.now < length text.now) }
     ensures exact { MatchOption result (tokens text.now ≡ []) (λ r. tokens text.now ≡ r.0.now ∷ tokens r.1.now) }
@@ -122,8 +126,8 @@ pub fn next_token(text: &[u8]) -> Option<(&[u8], &[u8])>
     Some(visible.split_at(end))
 }
 
-/// Returns the token of `text`, a part between spaces or tabs, if there is exactly one, and otherwise
-/// `None`.
+/// Returns the token of `text` if it has exactly one, and otherwise `None`. Tokens are separated by
+/// spaces and tabs.
 pub fn only_token(text: &[u8]) -> Option<&[u8]>
     ensures { option_copied result ≡ only (tokens text.now) }
 {
@@ -134,8 +138,8 @@ pub fn only_token(text: &[u8]) -> Option<&[u8]>
     }
 }
 
-/// Returns the tokens of `text`, its parts between spaces or tabs, if there are exactly two, and
-/// otherwise `None`.
+/// Returns the two tokens of `text`, in order, if it has exactly two, and otherwise `None`. Tokens
+/// are separated by spaces and tabs.
 pub fn only_two_tokens(text: &[u8]) -> Option<(&[u8], &[u8])>
     ensures { option_map (λ r. (r.0.now, r.1.now)) result ≡ only_two (tokens text.now) }
 {
@@ -144,7 +148,7 @@ pub fn only_two_tokens(text: &[u8]) -> Option<(&[u8], &[u8])>
     Some((first, second))
 }
 
-/// Returns `text` without spaces and tabs at both ends.
+/// Returns `text` without the spaces and tabs at its start and at its end.
 pub fn trimmed(text: &[u8]) -> &[u8]
     ensures { result.now ≡ trimmed text.now }
 {
@@ -153,6 +157,7 @@ pub fn trimmed(text: &[u8]) -> &[u8]
     without_blank_end(visible)
 }
 
+/// Returns `text` without the spaces and tabs at its end.
 fn without_blank_end(text: &[u8]) -> &[u8]
     ensures { result.now ≡ without_blank_end text.now }
 {

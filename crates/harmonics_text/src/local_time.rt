@@ -1,4 +1,4 @@
-//! The meridian and the time zone of a station.
+//! The line of a station with its meridian and the name of its time zone.
 
 ghost use Rattle.std.specs.Prelude.{◌≡◌, ◌≤◌, IfSome, position, encode_utf8_all};
 ghost use Rattle.std.specs.List.{list_all};
@@ -20,21 +20,25 @@ use crate::names::utf8_of;
 use decimal_text::{Text, digits, split_sign};
 use std::alloc::Global;
 
-/// A station's local time: its meridian and the name of its zone.
+/// A station's meridian and the name of its time zone.
 #[derive(Drop)]
 pub struct LocalTime {
-    /// The station's meridian, local time less universal time, in minutes: positive east of Greenwich,
-    /// from -959 to 959.
+    /// The station's local time less universal time, in minutes, from -959 to 959: positive east of
+    /// Greenwich.
     pub meridian: i32,
+    /// The name of the zone in UTF-8, without the colon before it, such as `America/New_York`. It
+    /// is empty if the line has no zone.
     pub zone: Text,
 }
 
+/// Returns the index of the first colon in `text`, or `None` if there is none.
 fn colon_at(text: &[u8]) -> Option<usize>
     ensures { result ≡ position is_colon text.now }
 {
     text.iter().position(|b| *b == b':')
 }
 
+/// Returns the number that `text`, exactly two digits, writes, or `None` for any other text.
 #[tactic(auto, unfolding(crate::specs::Rules::two_digits_of))]
 fn two_digits(text: &[u8]) -> Option<u64>
     ensures { result ≡ two_digits_of text.now }
@@ -46,6 +50,8 @@ fn two_digits(text: &[u8]) -> Option<u64>
     }
 }
 
+/// Returns 60 times `hour` plus `minute`, or `None` if one of them is `None`, `hour` exceeds 15 or
+/// `minute` exceeds 59.
 #[tactic(auto, unfolding(crate::specs::Rules::minutes_of))]
 fn minutes(hour: Option<u64>, minute: Option<u64>) -> Option<u32>
     ensures exact { result ≡ minutes_of hour minute }
@@ -59,7 +65,8 @@ fn minutes(hour: Option<u64>, minute: Option<u64>) -> Option<u32>
     Some((60 * hour + minute) as u32)
 }
 
-/// Returns the minutes of `H:MM` or `HH:MM`, at most 15:59, or `None` for any other text.
+/// Returns the minutes from 0:00 to the clock time `H:MM` or `HH:MM`, from 0 to 959, or `None` if
+/// `clock` has another form, an hour above 15 or a minute above 59.
 #[tactic(auto, unfolding(crate::specs::Rules::clock_of))]
 fn clock_minutes(clock: &[u8]) -> Option<u32>
     ensures exact { result ≡ clock_of clock.now }
@@ -71,7 +78,11 @@ fn clock_minutes(clock: &[u8]) -> Option<u32>
     minutes(digits(hour, 2), two_digits(minute))
 }
 
-/// Returns the minutes of the meridian in `token`, with its sign.
+/// Returns the meridian in `token`, such as `-5:00`, in minutes, from -959 to 959. The sign `-` or
+/// `+` may be missing.
+///
+/// # Errors
+/// [`Why::BadMeridian`]: if `token` isn't a sign and a clock time up to 15:59.
 #[tactic(auto, unfolding(crate::specs::Rules::meridian_of))]
 fn meridian_minutes(token: &[u8]) -> Result<i32, Why>
     ensures { result ≡ meridian_of token.now }
@@ -86,19 +97,26 @@ fn meridian_minutes(token: &[u8]) -> Result<i32, Why>
     }
 }
 
+/// Returns true if the byte may be in a zone's name: if it is neither below 33 nor 127.
 fn is_zone_byte(b: u8) -> bool
     ensures { result ≡ is_zone_byte b }
 {
     matches!(b, 33..=126 | 128..=255)
 }
 
+/// Returns true if each byte of `token` may be in a zone's name.
 fn is_zone(token: &[u8]) -> bool
     ensures { result ≡ list_all is_zone_byte token.now }
 {
     token.iter().all(|b| is_zone_byte(*b))
 }
 
-/// Returns the name of the zone in `token`, without the colon before it.
+/// Returns the zone's name in `token`, in ISO 8859-1, as UTF-8. One colon before it is left out, so
+/// the name may be empty.
+///
+/// # Errors
+/// [`Why::BadMeridian`]: if `token` has more than 100 bytes, a byte below 33 or the byte 127.
+/// [`LineFault::NoMemory`]: if memory runs out.
 #[tactic(auto, unfolding(crate::specs::Rules::zone_of))]
 fn zone_name(alloc: Global, token: &[u8]) -> Result<Text, LineFault>
     ensures { Follows (λ t. t) result (zone_of token.now) }
@@ -113,12 +131,13 @@ fn zone_name(alloc: Global, token: &[u8]) -> Result<Text, LineFault>
     }
 }
 
-/// Reads the line `text`, such as `-5:00 :America/New_York`: a meridian and the name of a zone, which may
-/// be missing.
+/// Returns the meridian and the zone in the line `text`, such as `-5:00 :America/New_York`. The
+/// zone may be missing.
 ///
 /// # Errors
-/// [`Why::BadMeridian`] if the line isn't a meridian, alone or followed by a zone; [`LineFault::NoMemory`] if memory runs
-/// out.
+/// [`Why::BadMeridian`]: if the line doesn't have one or two tokens, the first isn't a meridian
+/// from -15:59 to 15:59, or the second isn't a zone's name of at most 100 bytes.
+/// [`LineFault::NoMemory`]: if memory runs out.
 #[tactic(auto, unfolding(crate::specs::Rules::local_time_of, crate::specs::Rules::local_time_from))]
 pub fn local_time_of_line(alloc: Global, text: &[u8]) -> Result<LocalTime, LineFault>
     ensures { Follows (λ p. p) result (local_time_of text.now) }

@@ -1,4 +1,4 @@
-//! Names in ISO 8859-1, which are stored as UTF-8.
+//! Names, which a file has in ISO 8859-1 and a book in UTF-8.
 
 ghost use Rattle.std.specs.Prelude.{◌≡◌, IfOk, encode_utf8_all};
 ghost use Rattle.std.specs.Option.{option_copied};
@@ -11,10 +11,10 @@ use crate::fault::{LineFault, Why};
 use decimal_text::Text;
 use std::alloc::{AllocError, Global};
 
-/// Returns the characters of `latin`, in ISO 8859-1, as UTF-8.
+/// Returns the text `latin`, one byte per character in ISO 8859-1, as UTF-8. Any byte is allowed.
 ///
 /// # Errors
-/// [`AllocError`] if memory runs out.
+/// [`AllocError`]: if memory runs out.
 pub fn utf8_of(alloc: Global, latin: &[u8]) -> Result<Text, AllocError>
     ensures { IfOk result (λ t. t ≡ encode_utf8_all latin.now) }
 {
@@ -25,24 +25,25 @@ pub fn utf8_of(alloc: Global, latin: &[u8]) -> Result<Text, AllocError>
     Text::from_str(alloc, text.as_str())
 }
 
+/// Returns true if a name may have this byte of ISO 8859-1: if it is neither below 32 nor 127.
 fn is_latin_name_byte(b: u8) -> bool
     ensures { result ≡ is_latin_name_byte b }
 {
     matches!(b, 32..=126 | 128..=255)
 }
 
-/// Returns true if each byte may be in a name: printable ASCII, the space, or from 128 on.
+/// Returns true if no byte of `latin` is below 32 or equal to 127.
 fn is_printable(latin: &[u8]) -> bool
     ensures { result ≡ list_all is_latin_name_byte latin.now }
 {
     latin.iter().all(|b| is_latin_name_byte(*b))
 }
 
-/// Returns the name in `latin`, of 1 to `most` bytes in ISO 8859-1, as UTF-8.
+/// Returns the name `latin`, in ISO 8859-1, as UTF-8.
 ///
 /// # Errors
-/// [`Why::BadName`] if `latin` has no byte, more than `most`, or one that a name can't have (below 32,
-/// or 127); [`LineFault::NoMemory`] if memory runs out.
+/// [`Why::BadName`]: if `latin` is empty, has more than `most` bytes, a byte below 32 or the byte
+/// 127. [`LineFault::NoMemory`]: if memory runs out.
 #[tactic(auto, unfolding(crate::specs::Rules::name_of))]
 pub fn name_of(alloc: Global, latin: &[u8], most: usize) -> Result<Text, LineFault>
     ensures { Follows (λ t. t) result (name_of most latin.now) }
@@ -53,7 +54,8 @@ pub fn name_of(alloc: Global, latin: &[u8], most: usize) -> Result<Text, LineFau
     Ok(utf8_of(alloc, latin)?)
 }
 
-/// Returns the bytes of `text` after the first one if this is `b`, and otherwise `None`.
+/// Returns `text` without its first byte if this is `b`, and `None` if `text` is empty or begins
+/// with another byte.
 pub fn without_byte(text: &[u8], b: u8) -> Option<&[u8]>
     ensures { option_copied result ≡ without_byte b text.now }
 {
@@ -61,7 +63,8 @@ pub fn without_byte(text: &[u8], b: u8) -> Option<&[u8]>
     if *first == b { Some(rest) } else { None }
 }
 
-/// Returns the bytes after the first character if that is `latin`, in UTF-8, and otherwise `None`.
+/// Returns `text`, in UTF-8, without its first character if this is `latin`, a byte of ISO 8859-1,
+/// and otherwise `None`.
 #[tactic(auto, unfolding(crate::specs::Latin::without_bytes))]
 fn without_char(text: &[u8], latin: u8) -> Option<&[u8]>
     ensures { option_copied result ≡ without_bytes (utf8_byte_or_two latin) text.now }
@@ -72,7 +75,8 @@ fn without_char(text: &[u8], latin: u8) -> Option<&[u8]>
     without_byte(without_byte(text, 192 + latin / 64)?, 128 + latin % 64)
 }
 
-/// Returns true if `latin`, in ISO 8859-1, is the text `name`.
+/// Returns true if the bytes `latin`, in ISO 8859-1, are the same text as `name`, which is in
+/// UTF-8.
 pub fn is_name(latin: &[u8], name: &Text) -> bool
     ensures { result ≡ is_name latin.now name.now }
 {

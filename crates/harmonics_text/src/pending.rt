@@ -1,4 +1,4 @@
-//! A line that has not ended yet.
+//! The bytes of a line that were read before its LF.
 
 ghost use Rattle.std.specs.Prelude.{◌≡◌, ◌++◌, ◌≤◌, ◌↔◌, [], length, if◌then◌else◌, IfOk, IsTrue, Ok};
 ghost use Rattle.harmonics_text.specs.Lines.{is_comment, is_filled};
@@ -10,11 +10,11 @@ use crate::lines::is_comment;
 use std::alloc::{AllocError, Global};
 use std::marker::Model;
 
-/// The most bytes of a line other than a comment.
+/// The greatest length in bytes, without the LF, of a line that isn't a comment.
 const MOST: usize = 4096;
 
-/// The kept bytes of a line that has not ended: of a comment only the `#`, of any other line all bytes
-/// read until now. In contracts its value is the list of them.
+/// The bytes read of a line before its LF was found: all of them, at most 4,096, but only the `#`
+/// if the line is a comment. In contracts its value is the list of these bytes.
 #[derive(Drop)]
 pub struct Pending {
     kept: Vec<u8>,
@@ -31,10 +31,10 @@ impl Model for Pending {
 }
 
 impl Pending {
-    /// Returns a line without a byte, with memory for the longest line, of 4,096 bytes.
+    /// Returns an empty line, with memory for 4,096 bytes, so that appending need not allocate.
     ///
     /// # Errors
-    /// [`AllocError`] if memory runs out.
+    /// [`AllocError`]: if memory runs out.
     pub fn new(alloc: Global) -> Result<Pending, AllocError>
         ensures { IfOk result (λ p. p ≡ []) }
     {
@@ -43,21 +43,22 @@ impl Pending {
         })
     }
 
-    /// Returns true if the line has no byte yet.
+    /// Returns true if no byte of the line was read yet.
     pub fn is_empty(&self) -> bool
         ensures { IsTrue result ↔ (self.now ≡ []) }
     {
         self.kept.is_empty()
     }
 
-    /// Borrows the kept bytes of the line that has not ended.
+    /// Borrows the kept bytes: the line read until now, or `#` if it is a comment.
     pub fn as_slice(&self) -> &[u8]
         ensures { result.now ≡ self.now }
     {
         self.kept.as_slice()
     }
 
-    /// Returns the number of bytes of the line read until now: 0 within a comment.
+    /// Returns the number of bytes of the line read until now, from 0 to 4,096, or 0 if the line is
+    /// a comment.
     pub fn count(&self) -> u32
         ensures { result ≡ (if is_comment self.now then 0 else length self.now) }
     {
@@ -68,11 +69,12 @@ impl Pending {
         }
     }
 
-    /// Appends `more`, the next bytes of the line, to the kept ones; of a comment only the `#` is kept.
+    /// Appends `more`, the next bytes of the line, none of them its LF. If the line is a comment,
+    /// only its `#` is kept.
     ///
     /// # Errors
-    /// [`Why::LineTooLong`] if the line exceeds 4,096 bytes and isn't a comment; [`LineFault::NoMemory`]
-    /// if memory runs out.
+    /// [`Why::LineTooLong`]: if the line isn't a comment and then has more than 4,096 bytes.
+    /// [`LineFault::NoMemory`]: if memory runs out.
     pub fn add(&mut self, more: &[u8]) -> Result<(), LineFault>
         ensures { Follows (λ _. self.new) result (held (self.old ++ more.now)) }
     {
@@ -88,12 +90,13 @@ impl Pending {
         Ok(())
     }
 
-    /// Appends `last`, the last bytes of the line, if there are any bytes before them; otherwise it
-    /// does nothing, so that a line in one piece isn't copied.
+    /// Appends `last`, the bytes of the line before its LF, as [`Pending::add`] does, but only if
+    /// some bytes are kept already. Otherwise the whole line is `last`, which need not be copied,
+    /// and nothing is kept or checked.
     ///
     /// # Errors
-    /// [`Why::LineTooLong`] if the line exceeds 4,096 bytes and isn't a comment; [`LineFault::NoMemory`]
-    /// if memory runs out.
+    /// [`Why::LineTooLong`]: if bytes are kept, and the line isn't a comment and has more than
+    /// 4,096 bytes. [`LineFault::NoMemory`]: if memory runs out.
     pub fn end(&mut self, last: &[u8]) -> Result<(), LineFault>
         ensures { Follows (λ _. self.new) result (if is_filled self.old then held (self.old ++ last.now) else Ok []) }
     {
@@ -104,8 +107,8 @@ impl Pending {
         }
     }
 
-    /// Returns the whole line once [`Pending::end`] was called with `last`: the kept bytes, or `last`
-    /// if none were kept.
+    /// Returns the kept bytes, or `last` if none are kept. After a call of [`Pending::end`] with
+    /// the same `last`, this is the whole line, of a comment at least its `#`.
     pub fn whole<'a>(&'a self, last: &'a [u8]) -> &'a [u8]
         ensures { result.now ≡ (if is_filled self.now then self.now else last.now) }
     {
@@ -116,7 +119,7 @@ impl Pending {
         }
     }
 
-    /// Removes all kept bytes, to begin the next line.
+    /// Removes the kept bytes, so that the next line can begin.
     pub fn clear(&mut self)
         ensures { self.new ≡ [] }
     {
@@ -124,7 +127,7 @@ impl Pending {
     }
 }
 
-/// Returns true if `begin` followed by `more` begins a comment.
+/// Returns true if a line that begins with `begin` and then `more` is a comment.
 fn is_comment_with(begin: &[u8], more: &[u8]) -> bool
     ensures { result ≡ is_comment (begin.now ++ more.now) }
 {

@@ -1,5 +1,6 @@
-//! Numbers in their usual form, an optional `-`, digits, and an optional point with digits. They are
-//! read in one pass and in 64 bits. The module `numbers` reads any form.
+//! A fast way to read the usual decimals: an optional `-`, at most 11 digits, and an optional
+//! point. They are read in one pass with 64-bit arithmetic. The module `numbers` reads all
+//! decimals.
 
 ghost use Rattle.std.specs.Prelude.{◌≡◌, ◌+◌, ◌-◌, ◌*◌, ◌%◌, ◌^◌, ◌<◌, ◌≤◌, ◌∷◌, ◌++◌, [], Ok, take, if◌then◌else◌, IfSome, IsTrue};
 ghost use Rattle.std.specs.List.{prefix_len};
@@ -13,11 +14,11 @@ use crate::lines::{is_blank, visible_at};
 use crate::names::without_byte;
 use crate::scale::Scale;
 
-/// The most digits of a number that is read here: it fits 64 bits in the unit of any scale.
+/// The most digits of a decimal that this module reads, so that it fits 64 bits in any unit.
 const MOST_DIGITS: usize = 11;
 
-/// Returns the number, modulo 2^64, that the digits of `before` and the digits that `text` begins with
-/// write together, and the count of the latter.
+/// Reads the digits that `text` begins with. Returns the number whose digits are those of `before`
+/// and then these, modulo 2^64, and how many digits of `text` were read.
 fn digits_after(before: u64, text: &[u8]) -> (u64, usize)
     ensures count { result.1 ≡ prefix_len is_ascii_digit text.now }
     ensures value { result.0 ≡ digits_value_after 10 before (take result.1 text.now) % 2 ^ 64 }
@@ -32,7 +33,8 @@ fn digits_after(before: u64, text: &[u8]) -> (u64, usize)
     (value, text.len())
 }
 
-/// Returns true and the bytes after the first if the first is `b`, and otherwise false and `text`.
+/// Returns true and `text` without its first byte if this byte is `b`, and otherwise false and
+/// `text`.
 fn split_byte(text: &[u8], b: u8) -> (bool, &[u8])
     ensures { text.now ≡ (if result.0 then b ∷ [] else []) ++ result.1.now }
 {
@@ -42,7 +44,7 @@ fn split_byte(text: &[u8], b: u8) -> (bool, &[u8])
     }
 }
 
-/// Returns true if a token ends before `rest`.
+/// Returns true if `rest` is empty or begins with a space or a tab, so that a token before it ends.
 fn ends_token(rest: &[u8]) -> bool
     ensures { result ≡ ends_token rest.now }
 {
@@ -52,15 +54,16 @@ fn ends_token(rest: &[u8]) -> bool
     }
 }
 
-/// Returns true if a number of `digits` digits, `places` of them after the point, is read here; its unit
-/// has `most` decimal places.
+/// Returns true if a decimal with `digits` digits, of which `places` are after its point, can be
+/// read here: if it has 1 to 11 digits and at most `most` after the point, the decimal places of
+/// its unit.
 fn is_short(digits: usize, places: usize, most: u32) -> bool
     ensures { IsTrue result → (1 ≤ digits) × (digits ≤ 11) × (places ≤ most) }
 {
     digits >= 1 && digits <= MOST_DIGITS && places <= most as usize
 }
 
-/// Returns 10 to the power of `exponent`, from a table.
+/// Returns 10^`exponent`, from a table; `exponent` is from 0 to 7.
 #[inline(always)]
 fn power_of_ten(exponent: u32) -> u64
     requires { exponent ≤ 7 }
@@ -79,7 +82,8 @@ fn power_of_ten(exponent: u32) -> u64
     }
 }
 
-/// Returns `number` times `10^missing`.
+/// Returns `number` times 10^`missing`: the decimal in its unit, if its digits write `number` and
+/// it has `missing` decimal places less than the unit.
 #[inline(always)]
 fn in_units(number: u64, missing: u32) -> u64
     requires small { number < 10 ^ 11 }
@@ -90,7 +94,7 @@ fn in_units(number: u64, missing: u32) -> u64
     number * power_of_ten(missing)
 }
 
-/// Returns the number with the absolute value `size`.
+/// Returns `size`, or minus `size` if `negative` is true.
 fn signed(negative: bool, size: u64) -> i64
     requires { size < 10 ^ 18 }
     ensures { result ≡ signed negative size }
@@ -99,7 +103,7 @@ fn signed(negative: bool, size: u64) -> i64
     if negative { -size } else { size }
 }
 
-/// Returns `value` if it is in the range of `scale`.
+/// Returns `value`, in the unit of `scale`, if it is in the range of `scale`, and otherwise `None`.
 #[tactic(auto, unfolding(crate::specs::Rules::in_scale))]
 fn within(value: i64, scale: Scale) -> Option<i64>
     ensures { IfSome result (λ n. in_scale scale (Ok value) ≡ Ok n) }
@@ -110,9 +114,11 @@ fn within(value: i64, scale: Scale) -> Option<i64>
     Some(value)
 }
 
-/// Returns the first token of `text` as a number in the unit of `scale`, and the bytes after it.
-/// Returns `None` if the token isn't in the usual form (an optional `-`, digits, and an optional point
-/// with digits) or isn't in the range of `scale`.
+/// Returns the first token of `text` as a whole number in the unit of `scale`, and the bytes after
+/// the token. Returns `None` if there is no token, or the token isn't an optional `-` and digits
+/// with at most one point, has no digit or more than 11, has more digits after its point than the
+/// unit has decimal places (7 or 6), or isn't in the range of `scale`. So `None` doesn't mean that
+/// the token is bad.
 #[inline(always)]
 pub fn plain_number(text: &[u8], scale: Scale) -> Option<(i64, &[u8])>
     ensures { IfSome result (λ r. IsFirstNumber scale text.now r.0 r.1.now) }

@@ -1,4 +1,4 @@
-//! The state between two pieces of a file.
+//! The state of reading a harmonics file that was read in part.
 
 ghost use Rattle.std.specs.Prelude.{◌≡◌, ◌+◌, ◌<◌, ◌≤◌, ◌^◌, ◌++◌, ◌∷◌, [], length, false, IfOk, MatchResult};
 ghost use Rattle.harmonics_text.specs.Workings.BookParsing.{IsBookParser, placed, book_in};
@@ -23,16 +23,18 @@ use crate::pending::Pending;
 use harmonics_book::Book;
 use std::alloc::{AllocError, Global};
 
-/// The state of reading between two pieces of a file.
+/// The state of reading a harmonics file whose first bytes were read. These may end anywhere.
 #[derive(Drop)]
 pub struct Progress {
-    /// The parser state after the lines that have ended.
+    /// The parser's state after the lines whose LF was read.
     pub parser: BookParser,
-    /// The number of the line that has not ended, counted from 1.
+    /// The number of the line whose LF was not read yet, counted from 1.
     pub number: u32,
+    /// The bytes read of this line; of a comment only its `#`.
     pub pending: Pending,
 }
 
+/// Returns `fault`, found in the line with the number `line`, as a fault of the file.
 fn at_line(line: u32, fault: LineFault) -> BookFault
     ensures { result ≡ placed line fault }
 {
@@ -43,10 +45,10 @@ fn at_line(line: u32, fault: LineFault) -> BookFault
 }
 
 impl Progress {
-    /// Returns the state before any byte.
+    /// Returns the state before the first byte of a file.
     ///
     /// # Errors
-    /// [`AllocError`] if memory runs out.
+    /// [`AllocError`]: if memory runs out.
     pub fn new(alloc: Global) -> Result<Progress, AllocError>
         ensures { IfOk result (λ p. p ≡ nothing_read) }
     {
@@ -58,11 +60,12 @@ impl Progress {
         })
     }
 
-    /// Reads `piece`, the next bytes of the file. Lines that begin and end in it are read without being
-    /// copied. After a fault the state is that at some line of the piece, and nothing more may be read.
+    /// Reads `piece`, the next bytes of the file. A line that begins and ends in `piece` isn't
+    /// copied. After an error no more bytes may be read: the state is unspecified.
     ///
     /// # Errors
-    /// [`BookFault::At`] with the first bad line; [`BookFault::NoMemory`] if memory runs out.
+    /// [`BookFault::At`]: with the first line that breaks a rule, if its LF or its byte 4,097 is in
+    /// `piece`. [`BookFault::NoMemory`]: if memory runs out.
     pub fn read_piece(&mut self, alloc: Global, piece: &[u8]) -> Result<(), BookFault>
         requires valid { IsProgress self.old }
         requires count_bound { self.old.number + length piece.now < 2 ^ 32 }
@@ -82,7 +85,11 @@ impl Progress {
         self.add_rest(rest)
     }
 
-    /// Appends `rest`, bytes of a line that doesn't end in them.
+    /// Reads `rest`, the next bytes of a line, without its LF.
+    ///
+    /// # Errors
+    /// [`BookFault::At`]: if the line becomes too long. [`BookFault::NoMemory`]: if memory runs
+    /// out.
     #[tactic(auto, unfolding(crate::specs::Workings::Readers::with_pending))]
     fn add_rest(&mut self, rest: &[u8]) -> Result<(), BookFault>
         ensures { ReturnsAt (reached self.new (result_err result))
@@ -94,10 +101,10 @@ impl Progress {
         }
     }
 
-    /// Ends the last line at the end of the file.
+    /// Reads the last line, if the file ends without an LF after it.
     ///
     /// # Errors
-    /// [`BookFault::At`] if the last line is bad; [`BookFault::NoMemory`] if memory runs out.
+    /// [`BookFault::At`]: if this line breaks a rule. [`BookFault::NoMemory`]: if memory runs out.
     #[tactic(auto, unfolding(crate::specs::Workings::Readers::ended))]
     pub fn end(&mut self, alloc: Global) -> Result<(), BookFault>
         requires valid { IsProgress self.old }
@@ -115,10 +122,11 @@ impl Progress {
         Ok(())
     }
 
-    /// Returns the book of the file, after the last line has ended.
+    /// Returns the book of the file, after [`Progress::end`] has returned without an error.
     ///
     /// # Errors
-    /// [`BookFault::At`] with [`Why::CutShort`] if the file ends too early.
+    /// [`BookFault::At`] with [`Why::CutShort`]: if the file ends before its tables or its last
+    /// station are complete.
     pub fn into_book(self) -> Result<Book, BookFault>
         ensures { ReturnsAt result (finished self.number (book_in self.parser)) }
     {
@@ -132,8 +140,9 @@ impl Progress {
     }
 }
 
-/// Reads the line `first` and the lines that end in `bytes`. Returns the number of the next line and the
-/// unread bytes, or the fault.
+/// Reads the line `first`, which has the number `number`, and then each line of `bytes` up to its
+/// last LF. Returns the number of the line after them and the bytes after the last LF. If a line is
+/// bad, returns the fault of the first bad one.
 fn add_lines<'a>(
     parser: &mut BookParser,
     mut number: u32,

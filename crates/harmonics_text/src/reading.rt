@@ -1,4 +1,4 @@
-//! Reading a file of harmonic constants.
+//! Reading a harmonics file that is in memory.
 
 ghost use Rattle.std.specs.Prelude.{◌≡◌, ◌≤◌, length, IfOk};
 ghost use Rattle.harmonics_book.specs.Books.{IsBook};
@@ -10,18 +10,16 @@ use crate::fault::BookFault;
 use harmonics_book::Book;
 use std::alloc::Global;
 
-/// Reads a file of harmonic constants, and returns its book.
+/// Returns the book in `bytes`, the content of a harmonics file of at most 400,000,000 bytes.
 ///
-/// The file has the format of the text files that XTide's tools write: constituents with their speeds, a
-/// table of equilibrium arguments and one of node factors, and records of stations. Comments begin with
-/// `#`, lines of white space are skipped, and names are in ISO 8859-1. The units and ranges of the
-/// numbers are documented at the fields of [`Book`].
-///
-/// `bytes`, at most 400,000,000, are read once, line by line.
+/// The file has the format of the text files that XTide's tools write: constituents with their
+/// speeds, a table of equilibrium arguments, a table of node factors, and the stations. Lines that
+/// begin with `#` and blank lines are skipped, and names are in ISO 8859-1. The fields of [`Book`]
+/// give the units and ranges of the numbers. The bytes are read once, line by line.
 ///
 /// # Errors
-/// [`BookFault::At`] with the first line that breaks a rule, counted from 1, and the first reason why
-/// it does; [`BookFault::NoMemory`] if memory runs out.
+/// [`BookFault::At`]: with the number, counted from 1, of the first line that breaks a rule, and
+/// the reason; or if the file ends too early. [`BookFault::NoMemory`]: if memory runs out.
 ///
 /// # Examples
 /// ```

@@ -1,4 +1,4 @@
-//! The record of a station.
+//! The lines of a station, read in part, and the rules for its datum and its constants.
 
 ghost use Rattle.std.specs.Prelude.{◌≡◌, ◌||◌, Ok, pos, if◌then◌else◌, IfSome};
 ghost use Rattle.harmonics_text.specs.Rules.{is_absent, is_name, units_of, datum_of, pair_of};
@@ -16,27 +16,42 @@ use crate::scale::Scale;
 use decimal_text::Text;
 use harmonics_book::{Station, Units};
 
-/// A station, with the amplitudes and epochs of the constituents that were read until now.
+/// A station with its name, local time and datum, of which the amplitudes and epochs are being
+/// read.
 #[derive(Drop)]
 pub struct Constants {
+    /// The station's name in UTF-8.
     pub name: Text,
+    /// The station's meridian and the name of its zone.
     pub local_time: LocalTime,
+    /// The station's mean level in millionths of `units`.
     pub datum: i64,
+    /// The unit of the datum and of the amplitudes.
     pub units: Units,
+    /// The amplitudes read until now, in millionths of `units`, in the order of the book's
+    /// constituents.
     pub amplitude: Column,
+    /// The epochs read until now, in ten-millionths of a degree, in the order of the book's
+    /// constituents.
     pub epoch: Column,
 }
 
-/// The state of reading the lines of a station: which of them were read, with their values.
+/// The values of a station's lines that were read, if the station isn't complete.
 #[derive(Drop)]
 pub enum Record {
+    /// No line of a station was read since the last complete station.
     Nothing,
+    /// The station's name was read.
     Name(Text),
+    /// The name and the local time were read.
     LocalTime(Text, LocalTime),
+    /// The name, the local time, the datum, and some or none of the amplitudes and epochs were
+    /// read.
     Constants(Constants),
 }
 
-/// Returns the station with the amplitudes and epochs that were read.
+/// Returns `constants` as a station of a book; the amplitudes and epochs of all constituents were
+/// read.
 pub fn into_station(constants: Constants) -> Station
     ensures { result ≡ station_of constants }
 {
@@ -60,6 +75,8 @@ pub fn into_station(constants: Constants) -> Station
     }
 }
 
+/// Returns the unit that `token` names: `feet`, `meters`, `knots` or `knots^2`; any other token
+/// gives the fault [`Why::BadUnits`].
 #[tactic(auto, unfolding(crate::specs::Rules::units_of))]
 fn parse_units(token: &[u8]) -> Result<Units, Why>
     ensures { result ≡ units_of token.now }
@@ -77,11 +94,12 @@ fn parse_units(token: &[u8]) -> Result<Units, Why>
     }
 }
 
-/// Returns the datum (the mean level) of line `text`, in millionths of its unit, and this unit.
+/// Returns the datum (the mean level) in the line `text`, in millionths of its unit, and the unit.
 ///
 /// # Errors
-/// [`Why::BadUnits`] if the line doesn't have two tokens, of which the second is a known unit; the
-/// fault of the number precedes an unknown unit.
+/// The first that applies. [`Why::BadUnits`]: if the line doesn't have exactly two tokens.
+/// [`Why::BadNumber`], [`Why::TooFine`] and [`Why::OutOfRange`]: for the number. [`Why::BadUnits`]:
+/// if the second token isn't `feet`, `meters`, `knots` or `knots^2`.
 #[tactic(auto, unfolding(crate::specs::Rules::datum_of))]
 pub fn datum(text: &[u8]) -> Result<(i64, Units), Why>
     ensures { result ≡ datum_of text.now }
@@ -94,21 +112,24 @@ pub fn datum(text: &[u8]) -> Result<(i64, Units), Why>
     Ok((datum, units))
 }
 
+/// Returns the amplitude and the epoch, or twice 0 if `absent` is true.
 fn pair(absent: bool, amplitude: i64, epoch: i64) -> (i64, i64)
     ensures { result ≡ (if absent then (pos 0, pos 0) else (amplitude, epoch)) }
 {
     if absent { (0, 0) } else { (amplitude, epoch) }
 }
 
-/// Returns true if `token` is the name of the constituent `name`, or if this constituent is absent.
+/// Returns true if `token` is the constituent's name, or is `x`, for a constituent that the station
+/// doesn't have.
 fn is_for(token: &[u8], name: &Text) -> bool
     ensures { result ≡ (is_absent token.now || is_name token.now name.now) }
 {
     is_absent(token) || is_name(token, name)
 }
 
-/// Returns the amplitude, in millionths of the station's unit, and the epoch, in ten-millionths of a
-/// degree, of the constituent `name` in line `text`, or `None` unless the line has its usual form.
+/// Returns what [`amplitude_and_epoch`] returns, if the line has the usual form: the name or `x`,
+/// and two numbers that `plain_number` reads. Returns `None` for any other line, which may be
+/// right.
 fn plain_pair(name: &Text, text: &[u8]) -> Option<(i64, i64)>
     ensures { IfSome result (λ p. pair_of name.now text.now ≡ Ok p) }
 {
@@ -124,13 +145,14 @@ fn plain_pair(name: &Text, text: &[u8]) -> Option<(i64, i64)>
     }
 }
 
-/// Returns the amplitude, in millionths of the station's unit, and the epoch, in ten-millionths of a
-/// degree, of the constituent `name` in line `text`; both are 0 if the line is for an absent
-/// constituent.
+/// Returns the amplitude, in millionths of the station's unit, and the epoch, in ten-millionths of
+/// a degree, in the line `text`, which should be for the constituent `name`. Both are 0 if the line
+/// has `x` in place of the name, whatever its two numbers, which must be valid.
 ///
 /// # Errors
-/// [`Why::WrongConstituent`] if the line begins with another name; otherwise the fault of the first bad
-/// number.
+/// [`Why::WrongConstituent`]: if the first token is neither `name` nor `x`. [`Why::BadNumber`]: if
+/// there aren't exactly two tokens after it. Otherwise the fault of the first bad number of the
+/// two.
 pub fn amplitude_and_epoch(name: &Text, text: &[u8]) -> Result<(i64, i64), Why>
     ensures { result ≡ pair_of name.now text.now }
 {
@@ -140,8 +162,7 @@ pub fn amplitude_and_epoch(name: &Text, text: &[u8]) -> Result<(i64, i64), Why>
     }
 }
 
-/// Returns the amplitude, in millionths of the station's unit, and the epoch, in ten-millionths of a
-/// degree, of the constituent `name` in line `text` of any form.
+/// Returns what [`amplitude_and_epoch`] returns, for a line in any form.
 #[inline(never)]
 #[tactic(auto, unfolding(crate::specs::Rules::pair_of, crate::specs::Rules::pair_from))]
 fn any_pair(name: &Text, text: &[u8]) -> Result<(i64, i64), Why>

@@ -3,22 +3,25 @@
 ghost use Rattle.std.specs.Prelude.{◌≡◌, ◌≤◌};
 ghost use Rattle.harmonics_text.specs.Rules.{places_of, least_of, most_of};
 
-/// The kind of a decimal in a harmonics file, which determines its unit and its range.
+/// The kind of a decimal in a harmonics file. It determines the unit, with the decimal places that
+/// count, and the range.
 #[derive(Clone, Copy)]
 pub enum Scale {
-    /// A speed, in ten-millionths of a degree per hour.
+    /// A constituent's speed, in ten-millionths of a degree per hour: from 0 to 360 degrees per
+    /// hour.
     Speed,
-    /// An equilibrium argument or an epoch, in ten-millionths of a degree.
+    /// An equilibrium argument or an epoch, in ten-millionths of a degree: from -720 to 720
+    /// degrees.
     Angle,
-    /// A node factor, in millionths.
+    /// A node factor, in millionths: from 0 to 10.
     Factor,
-    /// A datum or an amplitude, in millionths of the station's unit.
+    /// A datum or an amplitude, in millionths of the station's unit: from -10,000 to 10,000 units.
     Height,
 }
 
 impl Scale {
-    /// Returns the number of decimal places that a decimal of this kind may have: 7 for ten-millionths,
-    /// 6 for millionths.
+    /// Returns how many decimal places count: 7 for speeds and angles, which are in ten-millionths,
+    /// and 6 for factors and heights, which are in millionths.
     pub fn places(self) -> u32
         ensures exact { result ≡ places_of self }
         ensures count_bound { result ≤ 9 }
@@ -29,7 +32,8 @@ impl Scale {
         }
     }
 
-    /// Returns the least value of a decimal of this kind, in its unit, millionths or ten-millionths.
+    /// Returns the least value of this kind: in ten-millionths of a degree (or of a degree per
+    /// hour) for angles and speeds, and in millionths for factors and heights.
     pub fn least(self) -> i64
         ensures { result ≡ least_of self }
     {
@@ -40,7 +44,8 @@ impl Scale {
         }
     }
 
-    /// Returns the greatest value of a decimal of this kind, in its unit, millionths or ten-millionths.
+    /// Returns the greatest value of this kind: in ten-millionths of a degree (or of a degree per
+    /// hour) for angles and speeds, and in millionths for factors and heights.
     pub fn most(self) -> i64
         ensures { result ≡ most_of self }
     {

@@ -1,4 +1,4 @@
-//! The lines of a station: its name, its local time, its datum and its constants.
+//! The lines of a station: its name, its local time, its datum, and a line for each constituent.
 
 ghost use Rattle.std.specs.Prelude.{◌≡◌, ◌+◌, ◌<◌, ◌≤◌, length, IfOk, OnOk};
 ghost use Rattle.harmonics_text.specs.declared.book_parser.BookParser.TheVariants.{Stations};
@@ -24,6 +24,11 @@ use harmonics_book::Book;
 use std::alloc::{AllocError, Global};
 use std::mem;
 
+/// Returns the state after `text`, the first line of a station, which is its name.
+///
+/// # Errors
+/// [`Why::TooManyStations`]: if the book has 20,000 stations. [`Why::BadName`]: if the name is bad.
+/// [`LineFault::NoMemory`]: if memory runs out.
 #[tactic(auto, unfolding(crate::specs::Workings::BookParsing::after_nothing, crate::specs::Rules::station_name_of))]
 fn after_nothing(alloc: Global, book: &Book, text: &[u8]) -> Result<Record, LineFault>
     ensures { Follows (λ r. Stations book.now r) result (after_nothing book.now text.now) }
@@ -35,6 +40,7 @@ fn after_nothing(alloc: Global, book: &Book, text: &[u8]) -> Result<Record, Line
     Ok(Record::Name(name))
 }
 
+/// Returns the state after `text`, the line with the local time of the station `name`.
 #[tactic(auto, unfolding(crate::specs::Workings::BookParsing::after_record))]
 fn after_station_name(alloc: Global, name: Text, text: &[u8]) -> Result<Record, LineFault>
     ensures { (book : Book) → Follows (λ r. Stations book r) result (after_record book (Record.Name name) text.now) }
@@ -43,8 +49,8 @@ fn after_station_name(alloc: Global, name: Text, text: &[u8]) -> Result<Record, 
     Ok(Record::LocalTime(name, local_time))
 }
 
-/// Returns the state of a station after its line `text` with the datum, with memory for `count`
-/// amplitudes and epochs.
+/// Returns the state after `text`, the line with a station's datum. The lists of amplitudes and
+/// epochs get memory for `count` numbers each.
 #[tactic(auto, unfolding(crate::specs::Workings::BookParsing::after_record))]
 fn after_local_time(
     alloc: Global,
@@ -69,7 +75,8 @@ fn after_local_time(
     }))
 }
 
-/// Appends the amplitude and the epoch of the next constituent to `station`.
+/// Reads `text`, a station's line for its next constituent, and appends the amplitude and the epoch
+/// to `station`.
 #[inline]
 #[tactic(auto, unfolding(crate::specs::Workings::BookParsing::after_pair))]
 fn add_pair(book: &Book, station: &mut Constants, text: &[u8]) -> Result<(), LineFault>
@@ -84,8 +91,8 @@ fn add_pair(book: &Book, station: &mut Constants, text: &[u8]) -> Result<(), Lin
     Ok(())
 }
 
-/// Returns the state of reading stations after `station` got one more amplitude and epoch. If they were
-/// its last, `book` has the station, and no station is begun.
+/// Returns `station` as an incomplete station if it lacks the amplitude and epoch of a constituent.
+/// Otherwise appends it to the stations of `book`, and returns [`Record::Nothing`].
 fn with_pair(book: &mut Book, station: Constants) -> Result<Record, AllocError>
     ensures { IfOk result (λ r. Stations book.new r ≡ with_pair book.old station) }
 {
@@ -96,6 +103,8 @@ fn with_pair(book: &mut Book, station: Constants) -> Result<Record, AllocError>
     Ok(Record::Nothing)
 }
 
+/// Reads `text`, a station's line for its next constituent, and returns the state after it. If this
+/// was the last constituent, the station is appended to `book`.
 fn after_pair(book: &mut Book, mut station: Constants, text: &[u8]) -> Result<Record, LineFault>
     requires { length station.amplitude < length book.old.constituents }
     ensures { Follows (λ r. Stations book.new r) result (after_pair book.old station text.now) }
@@ -104,8 +113,8 @@ fn after_pair(book: &mut Book, mut station: Constants, text: &[u8]) -> Result<Re
     Ok(with_pair(book, station)?)
 }
 
-/// Returns the state of a station after its next line, `text`; `begun` holds what its earlier lines
-/// gave.
+/// Reads `text`, the next line of the station of which `begun` has the earlier lines, and returns
+/// the state after it. A station that becomes complete is appended to `book`.
 #[tactic(auto, unfolding(crate::specs::Workings::BookParsing::after_record))]
 fn after_record(
     alloc: Global,
@@ -127,9 +136,9 @@ fn after_record(
     }
 }
 
-/// Moves `begun`, which holds what a station's earlier lines gave, to the state after its next line,
-/// `text`. A separate function from `add_station_line`, so that what is moved needs no room on its
-/// stack, which would be cleared for each amplitude and epoch.
+/// Does what [`add_station_line`] does, for any line, by moving `begun`. It is a separate function,
+/// so that `add_station_line` needs no stack space for what is moved, which would be cleared for
+/// each amplitude and epoch.
 #[inline(never)]
 fn move_on(alloc: Global, book: &mut Book, begun: &mut Record, text: &[u8]) -> Result<(), LineFault>
     requires { IsBookParser (Stations book.old begun.old) }
@@ -140,9 +149,14 @@ fn move_on(alloc: Global, book: &mut Book, begun: &mut Record, text: &[u8]) -> R
     Ok(())
 }
 
-/// Reads the next line, `text`, of a station. `begun` holds what the station's earlier lines gave, or
-/// nothing. After the station's last line, `book` has the station and `begun` is empty. An amplitude
-/// and epoch other than the station's last are appended to `begun` in place.
+/// Reads `text`, the next line of a station. `begun` has the values of the station's earlier lines,
+/// or [`Record::Nothing`] before its first line, and gets the values of this line. After the
+/// station's last line it is appended to `book`, and `begun` is [`Record::Nothing`]. After an error
+/// both are unspecified.
+///
+/// # Errors
+/// [`LineFault::Bad`]: with the first rule that the line breaks. [`LineFault::NoMemory`]: if memory
+/// runs out.
 pub fn add_station_line(
     alloc: Global,
     book: &mut Book,
@@ -160,7 +174,7 @@ pub fn add_station_line(
     move_on(alloc, book, begun, text)
 }
 
-/// Appends the amplitudes and epochs, all 0, of `count` absent constituents to `station`.
+/// Appends `count` amplitudes and epochs of 0 to `station`, for constituents that it doesn't have.
 fn push_absent(station: &mut Constants, count: usize) -> Result<(), AllocError>
     ensures { OnOk result (station.new ≡ with_absent count station.old) }
 {
@@ -169,12 +183,12 @@ fn push_absent(station: &mut Constants, count: usize) -> Result<(), AllocError>
     Ok(())
 }
 
-/// Reads the lines of absent constituents that `bytes` begins with, except the station's last line,
-/// into `begun`, which holds what the station's earlier lines gave. Returns the number of these lines
-/// and the bytes after them.
+/// Reads some of the lines `x 0 0` (a constituent that the station doesn't have) at the start of
+/// `bytes` into `begun`, which has the values of the station's earlier lines, or reads none.
+/// Returns the number of lines read and the bytes after them.
 ///
 /// # Errors
-/// [`AllocError`] if memory runs out.
+/// [`AllocError`]: if memory runs out.
 pub fn add_absent<'a>(
     book: &Book,
     begun: &mut Record,

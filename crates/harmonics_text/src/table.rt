@@ -1,4 +1,4 @@
-//! The tables of equilibrium arguments and node factors.
+//! The table of equilibrium arguments and the table of node factors.
 
 ghost use Rattle.std.specs.Prelude.{◌≡◌, ◌<◌, ◌≤◌, length, IfOk};
 ghost use Rattle.harmonics_text.specs.Lines.{tokens};
@@ -24,18 +24,20 @@ use crate::scale::Scale;
 use decimal_text::Text;
 use std::alloc::{AllocError, Global};
 
-/// A table of equilibrium arguments or node factors, read in part.
+/// A table that was read in part: for each constituent a line with its name, and its value for each
+/// year on one line or more.
 #[derive(Drop)]
 pub struct Table {
-    /// The index, counted from 0, of the constituent that has the next values.
+    /// The index, from 0, of the constituent whose name or values are expected next.
     pub index: usize,
-    /// The number of values of the constituent at `index` that are still to be read: 0 before its name
-    /// was read.
+    /// How many values of this constituent are still to be read: 0 if its name is expected next.
     pub remaining: u32,
+    /// The values read until now, in the unit of the table: for each constituent in order, a value
+    /// for each year.
     pub values: Column,
 }
 
-/// Returns the state of a table before any line of it is read.
+/// Returns a table of which no line was read. It doesn't allocate.
 pub fn start_table(alloc: Global) -> Table
     ensures { result ≡ new_table }
 {
@@ -46,7 +48,7 @@ pub fn start_table(alloc: Global) -> Table
     }
 }
 
-/// Appends the number in `token` to `values`.
+/// Appends the decimal `token`, in the unit of `scale`, to `values`.
 #[tactic(auto, unfolding(crate::specs::Workings::BookParsing::pushed))]
 fn push_number(values: &mut Column, scale: Scale, token: &[u8]) -> Result<(), LineFault>
     ensures { Follows (λ _. values.new) result (pushed scale values.old token.now) }
@@ -55,8 +57,8 @@ fn push_number(values: &mut Column, scale: Scale, token: &[u8]) -> Result<(), Li
     Ok(())
 }
 
-/// Returns the index of the constituent that has the next values, after a line that leaves `remaining`
-/// values of constituent `index` to be read.
+/// Returns the constituent's index in a table after a line of values: `index`, or the next one if
+/// `remaining`, the number of values it still lacks, is 0.
 fn next_place(remaining: u32, index: usize) -> usize
     requires { index < 500 }
     ensures { result ≡ at_place remaining index }
@@ -64,8 +66,8 @@ fn next_place(remaining: u32, index: usize) -> usize
     if remaining == 0 { index + 1 } else { index }
 }
 
-/// Appends the values that `text` begins with to `table`, up to the first that isn't in the usual form.
-/// Returns the bytes after them.
+/// Reads values at the start of the line `text` into `table`, as long as they are in the usual form
+/// that `plain_number` reads. Returns the bytes after the last value read.
 fn add_plain_values<'a>(
     table: &mut Table,
     scale: Scale,
@@ -89,7 +91,7 @@ fn add_plain_values<'a>(
     Ok(rest)
 }
 
-/// Appends the values of line `text`, in any form, to `table`.
+/// Reads the values in `text`, the rest of a line, into `table`, in any form of a decimal.
 #[tactic(auto, unfolding(crate::specs::Workings::BookParsing::after_values))]
 fn add_other_values(table: &mut Table, scale: Scale, text: &[u8]) -> Result<(), LineFault>
     requires { table.old.index < 500 }
@@ -108,7 +110,7 @@ fn add_other_values(table: &mut Table, scale: Scale, text: &[u8]) -> Result<(), 
     Ok(())
 }
 
-/// Appends the values of line `text` to `table`.
+/// Reads the values in the line `text` into `table`.
 fn add_values(table: &mut Table, scale: Scale, text: &[u8]) -> Result<(), LineFault>
     requires { table.old.index < 500 }
     ensures { Follows (λ _. table.new) result (after_values scale table.old text.now) }
@@ -117,7 +119,8 @@ fn add_values(table: &mut Table, scale: Scale, text: &[u8]) -> Result<(), LineFa
     add_other_values(table, scale, rest)
 }
 
-/// Checks that line `text` is the name of the constituent of the next values.
+/// Checks that the line `text` is the constituent's name and nothing else; otherwise the fault is
+/// [`Why::WrongConstituent`].
 #[tactic(auto, unfolding(crate::specs::Rules::named))]
 fn check_name(name: &Text, text: &[u8]) -> Result<(), Why>
     ensures { result ≡ named name.now text.now }
@@ -132,11 +135,14 @@ fn check_name(name: &Text, text: &[u8]) -> Result<(), Why>
     }
 }
 
-/// Reads the next line `text` of `table`, which is incomplete.
+/// Reads `text`, the next line of an incomplete `table`: a constituent's name, or values in the
+/// unit of `scale`. `heading` gives the constituents and the number of years. After an error the
+/// table is unspecified.
 ///
 /// # Errors
-/// [`Why::WrongConstituent`] if the line should name the next constituent and doesn't; otherwise the
-/// fault of the first bad number; [`LineFault::NoMemory`] if memory runs out.
+/// [`Why::WrongConstituent`]: if a name is expected and the line isn't the next constituent's.
+/// [`Why::BadNumber`], [`Why::TooFine`] and [`Why::OutOfRange`]: for the first bad value;
+/// `BadNumber` also if the line has too many values. [`LineFault::NoMemory`]: if memory runs out.
 #[tactic(auto, unfolding(crate::specs::Workings::BookParsing::after_table_line, crate::specs::Workings::BookParsing::after_name))]
 pub fn add_table_line(
     table: &mut Table,

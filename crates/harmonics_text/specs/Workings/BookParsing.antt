@@ -1,5 +1,6 @@
--- The parser states of reading line by line: their invariant, and the state after one more line. They are
--- proved to result in the book of Reading.antt (this project).
+-- The states of a parser that reads a harmonics file line by line: which of them are valid, and the
+-- state after one more line. The proofs derive the book of Reading.antt from these states (this
+-- project).
 use Rattle.std.specs.Prelude.{
   [],
   ◌∷◌,
@@ -66,26 +67,29 @@ use Rattle.harmonics_text.specs.Rules.{
 use Rattle.std.specs.List.{list_all}
 use Rattle.harmonics_book.specs.Books.{IsWithin, IsName, IsConstituent, IsBook}
 
--- from 1 to 500 valid constituents
+-- true of a list of 1 to 500 constituents, each with a valid name and a valid speed
 pub record AreConstituents (cs : List Constituent) : Type 0 where
   pub some : 1 ≤ length cs
   pub few : length cs ≤ 500
   pub each : All IsConstituent cs
 
--- a valid heading of a harmonics file: 1 to 500 constituents, a first year from 2 to 8800, and 1 to 500
--- years
+-- true of a valid heading (the parts of a file before its tables): 1 to 500 valid constituents, a
+-- first year from 2 to 8800, and 1 to 500 years
 pub record IsHeading (h : Heading) : Type 0 where
   pub constituents : AreConstituents h.constituents
   pub first_year : IsWithin (pos 2) (pos 8800) h.first_year
   pub some_years : 1 ≤ h.years
   pub few_years : h.years ≤ 500
 
--- the values of `count` constituents, for each of the years
+-- `AreValues least most count years values`: true of a complete table: it has `count` times `years`
+-- values, each from `least` to `most`, both included
 pub record AreValues (least most : ℤ) (count years : ℕ) (values : List ℤ) : Type 0 where
   pub all : length values ≡ count * years
   pub each : All (IsWithin least most) values
 
--- the values of the constituents before the index, and a part of those at it
+-- `IsTable least most count years t`: true of a table read in part, for `count` constituents: it
+-- has all values of the constituents before `index`, and all but `remaining` at `index` if
+-- `remaining` isn't 0; each value is from `least` to `most`, both included
 pub record IsTable (least most : ℤ) (count years : ℕ) (t : Table) : Type 0 where
   pub before : t.remaining ≡ 0 → length t.values ≡ t.index * years
   pub inside : 1 ≤ t.remaining → length t.values + t.remaining ≡ t.index * years + years
@@ -93,8 +97,8 @@ pub record IsTable (least most : ℤ) (count years : ℕ) (t : Table) : Type 0 w
   pub index : t.index ≤ count
   pub each : All (IsWithin least most) t.values
 
--- a station being read: it has the amplitudes and epochs of some of `count` constituents, but not of
--- all
+-- `AreConstants count c`: true of an incomplete station of a book with `count` constituents: its
+-- name and numbers are in their ranges, and it has as many epochs as amplitudes, less than `count`
 pub record AreConstants (count : ℕ) (c : Constants) : Type 0 where
   pub name : IsName 200 c.name
   pub meridian : IsWithin (negsuc 958) (pos 959) c.local_time.meridian
@@ -104,7 +108,7 @@ pub record AreConstants (count : ℕ) (c : Constants) : Type 0 where
   pub amplitude : All (IsWithin (negsuc 9999999999) (pos 10000000000)) c.amplitude
   pub epoch : All (IsWithin (negsuc 7199999999) (pos 7200000000)) c.epoch
 
--- the station, once the amplitudes and epochs of all its constituents were read
+-- the constants of a station, of which all lines were read, as a station of a book
 abbrev pub station_of : Constants → Station
 station_of c = record {
   name = c.name;
@@ -116,22 +120,26 @@ station_of c = record {
   epoch = c.epoch;
 }
 
--- if a station is being read, there is room for one more
+-- `IsRecord b record`: true of the lines of an incomplete station: its values are valid, and the
+-- book b has less than 20,000 stations; true if no line was read
 abbrev pub IsRecord : Book → Record → Type 0
 IsRecord b records.Nothing = Unit {0}
 IsRecord b (records.Name n) = (length b.stations < 20000) × IsName 200 n
 IsRecord b (records.LocalTime n p) = (length b.stations < 20000) × IsName 200 n × IsWithin (negsuc 958) (pos 959) p.meridian
 IsRecord b (records.Constants c) = (length b.stations < 20000) × AreConstants (length b.constituents) c
 
--- the equilibrium arguments of a heading's constituents and years
+-- `IsAngles h values`: true of a complete table of equilibrium arguments, in ten-millionths of a
+-- degree, for the constituents and years of the heading h
 abbrev pub IsAngles : Heading → List ℤ → Type 0
 IsAngles h values = AreValues (negsuc 7199999999) (pos 7200000000) (length h.constituents) h.years values
 
--- the node factors of a heading's constituents and years
+-- `IsFactors h values`: true of a complete table of node factors, in millionths, for the
+-- constituents and years of the heading h
 abbrev pub IsFactors : Heading → List ℤ → Type 0
 IsFactors h values = AreValues (pos 0) (pos 10000000) (length h.constituents) h.years values
 
--- the invariant of a parser state
+-- true of a valid state of the parser: the values read before are in the ranges of a file, and as
+-- many as the state says
 abbrev pub IsBookParser : BookParser → Type 0
 IsBookParser parsing.Count = Unit {0}
 IsBookParser (parsing.Constituents remaining earlier) = (1 ≤ remaining) × (remaining + length earlier ≤ 500) × All IsConstituent earlier
@@ -146,113 +154,126 @@ IsBookParser (parsing.Factors h angles t) = IsHeading h × IsAngles h angles × 
 IsBookParser (parsing.FactorsEnd h angles factors) = IsHeading h × IsAngles h angles × IsFactors h factors
 IsBookParser (parsing.Stations b r) = IsBook b × IsRecord b r
 
--- An error of a function is the rule's error, unless it is out of memory.
+-- `Fails fault rule`: true if `fault` is NoMemory (memory ran out), or if `rule`, the result by
+-- definition, is the error `fault`
 abbrev pub Fails : {Y : Type 0} → LineFault → Result Y Why → Type 0
 Fails NoMemory rule = Unit {0}
 Fails (Bad why) rule = rule ≡ Err why
 
--- A result of a function, seen by `view`, is the rule's result, unless it is out of memory.
+-- `Follows view result rule`: true if the function's value, as `view` shows it, or its error is
+-- `rule`, the result by definition, or if it is the error NoMemory (memory ran out)
 abbrev pub Follows : {X Y : Type 0} → (X → Y) → Result X LineFault → Result Y Why → Type 0
 Follows view (Ok x) rule = rule ≡ Ok (view x)
 Follows view (Err e) rule = Fails e rule
 
--- the fault of the line with this number, counted from 1, as a fault of the file
+-- an error of the line with this number, counted from 1, as a fault of the file
 abbrev pub placed : ℕ → LineFault → BookFault
 placed line NoMemory = faults.NoMemory
 placed line (Bad why) = faults.At line why
 
 -- ---- the state after one more line
 
--- the state after the line with the number of constituents
+-- the state after the first line, the number of constituents, or BadCount
 unfoldable pub after_count : List ℕ → Result BookParser Why
 after_count text = count_of text >>= λ n. Ok (parsing.Constituents n [])
 
--- the parser state after one more constituent, if `remaining` of them, this one included, were still to
--- be read
+-- `with_constituents remaining cs`: the state after a constituent's line, the last in cs;
+-- `remaining` counts the constituents that were expected before it, this one included
 abbrev pub with_constituents : ℕ → List Constituent → BookParser
 with_constituents remaining cs = if nat_lt 1 remaining then parsing.Constituents (remaining - 1) cs else parsing.FirstYear cs
 
--- the parser state after the line of a constituent
+-- `after_constituent remaining earlier text`: the state after the constituent's line `text`, if
+-- `remaining` constituents were expected before it; `earlier` are the constituents before
 unfoldable pub after_constituent : ℕ → List Constituent → List ℕ → Result BookParser Why
 after_constituent remaining earlier text = constituent_of earlier text >>= λ c. Ok (with_constituents remaining (earlier ++ c ∷ []))
 
--- a table of equilibrium arguments or node factors before any line of it was read
+-- a table of which no line was read
 abbrev pub new_table : Table
 new_table = record { index = 0; remaining = 0; values = [] }
 
--- the parser state after the line with the number of years of the first table
+-- `after_years cs year text`: the state after the line `text`, the number of years of the first
+-- table; cs are the constituents, and `year` is the first year
 unfoldable pub after_years : List Constituent → ℤ → List ℕ → Result BookParser Why
 after_years cs year text = count_of text >>= λ n. Ok (parsing.Angles (record { constituents = cs; first_year = year; years = n }) new_table)
 
--- the values of a table, followed by the number that one more token writes, or the reason why the token
--- is bad
+-- `pushed s values token`: the values and then the number of the kind s in the token, or the reason
+-- why the token is bad
 unfoldable pub pushed : Scale → List ℤ → List ℕ → Result (List ℤ) Why
 pushed s values token = parse_number s token >>= λ n. Ok (values ++ n ∷ [])
 
--- the constituent's index after a line that leaves `remaining` values to be read
+-- `at_place remaining index`: a constituent's index in a table after a line of values: the next one
+-- if `remaining`, the number of values that it still lacks, is 0
 abbrev pub at_place : ℕ → ℕ → ℕ
 at_place remaining index = if remaining == 0 then index + 1 else index
 
--- a table of equilibrium arguments or node factors after a line of values
+-- `after_values s t text`: the table t after `text`, a line with values of the kind s
 unfoldable pub after_values : Scale → Table → List ℕ → Result Table Why
 after_values s t text = values_from s t.remaining t.values (tokens text)
     >>= λ v. Ok (record { index = at_place v.0 t.index; remaining = v.0; values = v.1 })
 
--- a table of equilibrium arguments or node factors after the line with a constituent's name
+-- `after_name t years name text`: the table t after `text`, the line with the constituent's name;
+-- `years` values are expected next
 unfoldable pub after_name : Table → ℕ → List ℕ → List ℕ → Result Table Why
 after_name t years name text = named name text >>= λ _. Ok (record { index = t.index; remaining = years; values = t.values })
 
--- a table of equilibrium arguments or node factors after its next line: a constituent's name, or values
+-- `after_table_line s h t text`: the incomplete table t, for the constituents and years of the
+-- heading h, after its next line: a constituent's name, or values of the kind s
 unfoldable pub after_table_line : Scale → Heading → Table → List ℕ → Result Table Why
 after_table_line s h t text =
     if nat_lt 0 t.remaining then after_values s t text
     else after_name t h.years (slice_index_or h.constituents t.index (record { name = []; speed = pos 0 })).name text
 
--- the parser state with a table of equilibrium arguments, which may be complete
+-- the state with the table t of equilibrium arguments: a line of it is expected, or `*END*` if it
+-- is complete
 abbrev pub with_angles : Heading → Table → BookParser
 with_angles h t = if nat_lt t.index (length h.constituents) then parsing.Angles h t else parsing.AnglesEnd h t.values
 
--- the parser state after a line of the table of equilibrium arguments
+-- the state after `text`, a line of the table t of equilibrium arguments
 unfoldable pub after_angles : Heading → Table → List ℕ → Result BookParser Why
 after_angles h t text = after_table_line Angle h t text >>= λ t. Ok (with_angles h t)
 
--- the parser state after the line with the number of years of the second table
+-- the state after `text`, the number of years of the second table, which must be the first one's
 unfoldable pub after_years_again : Heading → List ℤ → List ℕ → Result BookParser Why
 after_years_again h angles text = same_count_of h.years text >>= λ _. Ok (parsing.Factors h angles new_table)
 
--- the parser state with a table of node factors, which may be complete
+-- the state with the table t of node factors: a line of it is expected, or `*END*` if it is
+-- complete
 abbrev pub with_factors : Heading → List ℤ → Table → BookParser
 with_factors h angles t =
     if nat_lt t.index (length h.constituents) then parsing.Factors h angles t else parsing.FactorsEnd h angles t.values
 
--- the parser state after a line of the table of node factors
+-- the state after `text`, a line of the table t of node factors
 unfoldable pub after_factors : Heading → List ℤ → Table → List ℕ → Result BookParser Why
 after_factors h angles t text = after_table_line Factor h t text >>= λ t. Ok (with_factors h angles t)
 
--- the book of a heading and its two tables, without any station
+-- the book with a heading and its two tables, without a station
 abbrev pub new_book : Heading → List ℤ → List ℤ → Book
 new_book h angles factors =
     record { constituents = h.constituents; first_year = h.first_year; years = h.years; angles = angles; factors = factors; stations = [] }
 
--- the parser state after the line with the name of a station
+-- the state after `text`, the first line of a station, which is its name; TooManyStations if the
+-- book b has 20,000 stations
 unfoldable pub after_nothing : Book → List ℕ → Result BookParser Why
 after_nothing b text =
     if nat_le 20000 (length b.stations) then Err TooManyStations
     else station_name_of text >>= λ name. Ok (parsing.Stations b (records.Name name))
 
--- the parser state with one more amplitude and epoch of a station, which may be the station's last
+-- `with_pair b c`: the state in which the station c is being read; if c has all its amplitudes and
+-- epochs, it is appended to the stations of the book b, and no station is being read
 abbrev pub with_pair : Book → Constants → BookParser
 with_pair b c =
     if nat_lt (length c.amplitude) (length b.constituents) then parsing.Stations b (records.Constants c)
     else parsing.Stations (record b { stations = b.stations ++ station_of c ∷ [] }) records.Nothing
 
--- the parser state after a line with the amplitude and epoch of a station's next constituent
+-- the state after `text`, the line of the station c with the amplitude and the epoch of its next
+-- constituent
 unfoldable pub after_pair : Book → Constants → List ℕ → Result BookParser Why
 after_pair b c text =
     pair_of (slice_index_or b.constituents (length c.amplitude) (record { name = []; speed = pos 0 })).name text
     >>= λ p. Ok (with_pair b (record c { amplitude = c.amplitude ++ p.0 ∷ []; epoch = c.epoch ++ p.1 ∷ [] }))
 
--- the parser state after the next line of a station
+-- `after_record b record text`: the state after `text`, a station's next line; `record` has the
+-- station's earlier lines, and b the complete stations
 unfoldable pub after_record : Book → Record → List ℕ → Result BookParser Why
 after_record b records.Nothing text = after_nothing b text
 after_record b (records.Name name) text = local_time_of text >>= λ t. Ok (parsing.Stations b (records.LocalTime name t))
@@ -260,7 +281,8 @@ after_record b (records.LocalTime name local_time) text = datum_of text >>= λ d
     (records.Constants (record { name = name; local_time = local_time; datum = d.0; units = d.1; amplitude = []; epoch = [] })))
 after_record b (records.Constants c) text = after_pair b c text
 
--- the parser state after a line that isn't skipped
+-- the state after `text`, a line without its end that is neither a comment nor blank, or the reason
+-- why it is bad
 unfoldable pub after_text : BookParser → List ℕ → Result BookParser Why
 after_text parsing.Count text = after_count text
 after_text (parsing.Constituents remaining earlier) text = after_constituent remaining earlier text
@@ -274,8 +296,8 @@ after_text (parsing.FactorsEnd h angles factors) text =
     end_of text >>= λ _. Ok (parsing.Stations (new_book h angles factors) records.Nothing)
 after_text (parsing.Stations b r) text = after_record b r text
 
--- the parser state after a line: comments and lines of white space don't change it, and a line that is
--- too long is refused
+-- the state after a line of the file, without its LF: comments and blank lines don't change it;
+-- LineTooLong for any other line of more than 4,096 bytes
 unfoldable pub after_line : BookParser → List ℕ → Result BookParser Why
 after_line d line =
     if is_comment line then Ok d
@@ -283,14 +305,14 @@ after_line d line =
     else if list_all is_blank (without_cr line) then Ok d
     else after_text d (without_cr line)
 
--- the book, if no station is begun but incomplete
+-- the book b if no line of an incomplete station was read, else None
 abbrev pub book_at : Book → Record → Option Book
 book_at b records.Nothing = Some b
 book_at b (records.Name n) = None
 book_at b (records.LocalTime n p) = None
 book_at b (records.Constants c) = None
 
--- the book of a state whose last part is complete
+-- the book if the file may end in this state, else None
 abbrev pub book_in : BookParser → Option Book
 book_in parsing.Count = None
 book_in (parsing.Constituents remaining earlier) = None
