@@ -1,11 +1,12 @@
-//! A list of bytes.
+//! A list of bytes that can't be changed.
 
 ghost use Rattle.std.specs.Prelude.{◌≡◌, List, ℕ, IfOk};
 
 use std::alloc::AllocError;
 use std::marker::Model;
 
-/// A list of bytes. In contracts its value is the list of their numbers, each below 256.
+/// A list of bytes, which can't be changed. In contracts its value is the list of the bytes as
+/// numbers, each from 0 to 255.
 #[derive(Clone, Drop)]
 pub struct Bytes {
     items: Vec<u8>,
@@ -18,24 +19,24 @@ impl Model for Bytes {
 }
 
 impl Bytes {
-    /// Returns the list of the bytes in `items`. It doesn't allocate.
+    /// Returns the list with the bytes in `items`, which are moved into it. It doesn't allocate.
     pub fn from_vec(items: Vec<u8>) -> Bytes
         ensures { result ≡ items.items }
     {
         Bytes { items }
     }
 
-    /// Borrows the bytes as a slice.
+    /// Borrows the bytes, in order, as a slice.
     pub fn as_slice(&self) -> &[u8]
         ensures { result.now ≡ self.now }
     {
         self.items.as_slice()
     }
 
-    /// Returns a second list of the same bytes.
+    /// Returns a second list with the same bytes.
     ///
     /// # Errors
-    /// [`AllocError`] if memory runs out.
+    /// [`AllocError`]: if memory runs out.
     pub fn copy(&self) -> Result<Bytes, AllocError>
         ensures { IfOk result (λ l. l ≡ self.now) }
     {

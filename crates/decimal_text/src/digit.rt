@@ -5,7 +5,8 @@ ghost use Rattle.arrayvec.specs.ArrayString.{array_string_len};
 
 use arrayvec::ArrayString;
 
-/// Appends `digit`, a number from 0 to 9, to `out` as one ASCII byte. It doesn't allocate.
+/// Appends the digit `digit`, from 0 to 9, to `out`, which has space for one more byte. It doesn't
+/// allocate.
 pub fn push_digit<const N: usize>(digit: u32, out: &mut ArrayString<N>)
     requires digit { digit < 10 }
     requires room { array_string_len out.old + 1 ≤ N }

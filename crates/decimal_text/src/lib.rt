@@ -1,9 +1,12 @@
 //! Owned texts and lists, decimals as texts, and rounding.
 //!
-//! In contracts a [`Text`] is the list of its UTF-8 bytes; [`Bytes`], [`Numbers`] and [`Words`] are the
-//! lists of their items. Only `copy` and [`Text::from_str`] allocate. [`read`] and [`write`] convert
-//! between decimals and whole numbers; [`digits`] reads a whole number written in only digits, and
-//! [`wide_digits`] one that needs up to 128 bits. [`are_name_bytes`] checks the bytes of a name.
+//! [`read`] converts a decimal to a whole number of steps of `1 / 10^places`, and [`write`] does
+//! the reverse. [`digits`] and [`wide_digits`] read whole numbers of up to 18 and up to 38 digits.
+//! [`rounded`] and [`rounded_short`] divide and round. [`are_name_bytes`] checks the bytes of a
+//! name.
+//!
+//! In contracts a [`Text`] is the list of its UTF-8 bytes; [`Bytes`], [`Numbers`] and [`Words`] are
+//! the lists of their items. Only the functions called `copy` and [`Text::from_str`] allocate.
 #![tactic(auto)]
 
 mod bytes;

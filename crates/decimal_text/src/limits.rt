@@ -1,5 +1,5 @@
-//! The limit on the length of a text (this project).
+//! The greatest length of a text that is read.
 
-/// The greatest length of a text that is read, in bytes. In a text of this length or less, the numbers
-/// of lines and records fit 32 bits.
+/// The greatest length in bytes of a text that is read, 400,000,000. The numbers of the lines and
+/// records in such a text fit 32 bits.
 pub const MOST_BYTES: usize = 400_000_000;

@@ -1,4 +1,4 @@
-//! Reading decimals digit by digit.
+//! Reading decimals.
 
 ghost use Rattle.std.specs.Prelude.{
   ◌≡◌,
@@ -27,18 +27,19 @@ use crate::fault::DecimalFault;
 use crate::sign::split_sign;
 use crate::steps::{Steps, power_of_ten};
 
-/// The most digits before the point.
+/// The most digits that a decimal may have before its point.
 const MOST_WHOLE_DIGITS: usize = 18;
 
-/// Returns the decimal `text` as a whole number of steps of `1 / 10^places`; `places` is from 0 to 9.
+/// Returns the decimal `text` as a whole number of steps of `1 / 10^places`, exactly: for `1.5` and
+/// 2 places, 150. `places` is from 0 to 9, and the result is below `10^27` in absolute value.
 ///
-/// A decimal is an optional `+` or `-`, digits, and an optional point with digits, with at least one
-/// digit in all. The text is read once from left to right, whatever its length. It doesn't allocate.
+/// A decimal is an optional `+` or `-`, digits, and an optional point with or without digits after
+/// it; it has at least one digit. The text is read once, whatever its length. It doesn't allocate.
 ///
 /// # Errors
-/// The first of these that applies: [`DecimalFault::BadForm`] if `text` isn't a decimal;
-/// [`DecimalFault::TooLong`] if it has more than 18 digits before the point; [`DecimalFault::TooFine`]
-/// if a digit after the first `places` decimals isn't 0.
+/// The first that applies. [`DecimalFault::BadForm`]: if `text` isn't a decimal.
+/// [`DecimalFault::TooLong`]: if it has more than 18 digits before the point, zeros included.
+/// [`DecimalFault::TooFine`]: if a digit after the first `places` decimal places isn't 0.
 ///
 /// # Examples
 /// ```
@@ -59,8 +60,8 @@ pub fn read(text: &[u8], places: u32) -> Result<i128, DecimalFault>
     }
 }
 
-/// Returns the number written by the digits that `body` begins with, and their count.
-/// The number is meaningless if the count exceeds 18.
+/// Returns the number that the digits at the start of `body` write, and how many digits these are.
+/// If they are more than 18, the number is the one that the first 18 write, and isn't used.
 fn whole_digits(body: &[u8]) -> (u64, usize)
     ensures count { result.1 ≡ length (take_while is_ascii_digit body.now) }
     ensures value { result.1 ≤ 18 → result.0 ≡ digits_value 10 (take_while is_ascii_digit body.now) }
@@ -78,8 +79,8 @@ fn whole_digits(body: &[u8]) -> (u64, usize)
     (value, body.len())
 }
 
-/// Returns the bytes after the point if `rest` begins with one, no bytes if `rest` is empty, and else
-/// `None`.
+/// Returns the bytes after the point if `rest` begins with a point, no bytes if `rest` is empty,
+/// and `None` if it begins with another byte.
 fn after_point(rest: &[u8]) -> Option<&[u8]>
     ensures { option_copied result ≡ after_point rest.now }
 {
@@ -94,16 +95,19 @@ fn after_point(rest: &[u8]) -> Option<&[u8]>
     }
 }
 
-/// Returns true if there is a digit before or after the point.
+/// Returns true if a decimal has a byte before or after its point.
 fn have_digit(whole: &[u8], fraction: &[u8]) -> bool
     ensures { result ≡ nat_lt 0 (length whole.now + length fraction.now) }
 {
     !whole.is_empty() || !fraction.is_empty()
 }
 
-/// Returns the decimal with this sign, `-` if `negative`, and these digits as a number of steps of `1 /
-/// 10^places`, or the fault. `whole` are the digits before the point, `fraction` the bytes after it,
-/// and `value` is the number that `whole` writes.
+/// Returns the decimal in parts as a number of steps of `1 / 10^places`. It is negative if
+/// `negative` is true; `whole` has the digits before the point, which write `value`, and `fraction`
+/// the bytes after the point.
+///
+/// # Errors
+/// The errors of [`read`].
 fn read_parts(
     negative: bool,
     whole: &[u8],
@@ -133,7 +137,7 @@ fn read_parts(
     Ok(if negative { -size } else { size })
 }
 
-/// Returns the number of steps of `1 / 10^places` of the whole number `whole` and of a fraction of
+/// Returns the number of steps of `1 / 10^places` in the whole number `whole` and a fraction of
 /// `part` steps.
 fn total_steps(whole: u64, places: u32, part: u64) -> u128
     requires count_bound { places ≤ 9 }

@@ -3,7 +3,8 @@
 ghost use Rattle.std.specs.Prelude.{◌≡◌};
 ghost use Rattle.std.specs.Str.Parse.{starts_with_minus, without_leading_sign};
 
-/// Returns whether `text` begins with `-`, and the rest of `text` after an optional `+` or `-`.
+/// Returns true if `text` begins with `-`, else false, and the bytes of `text` without its first
+/// byte if this is `+` or `-`, else all of them.
 pub fn split_sign(text: &[u8]) -> (bool, &[u8])
     ensures minus { result.0 ≡ starts_with_minus text.now }
     ensures rest { result.1.now ≡ without_leading_sign text.now }

@@ -1,12 +1,12 @@
-//! The digits of a fraction, read one by one.
+//! The digits after the point of a decimal, read one by one.
 
 ghost use Rattle.std.specs.Prelude.{◌≡◌, ℕ, ◌+◌, ◌*◌, ◌-◌, ◌^◌, ◌<◌, ◌≤◌, true, false, length, MatchOption};
 ghost use Rattle.std.specs.List.{list_all};
 ghost use Rattle.std.specs.Char.{is_ascii_digit};
 ghost use Rattle.std.specs.Str.Parse.{digits_value};
 
-/// Returns 10 to the power of `exponent`, which is from 0 to 9. It uses a table, since `pow` multiplies
-/// in a loop.
+/// Returns 10^`exponent`; `exponent` is from 0 to 9. The powers up to 10^7 are in a table, which is
+/// faster than a loop of multiplications.
 pub fn power_of_ten(exponent: u32) -> u64
     requires { exponent ≤ 9 }
     ensures { result ≡ 10 ^ exponent }
@@ -24,23 +24,25 @@ pub fn power_of_ten(exponent: u32) -> u64
     }
 }
 
-/// The decimals of a fraction read until now, as a whole number of steps of `1 / 10^places`, where
-/// `places` is the number of decimals that count.
+/// The state of reading the digits after the point of a decimal: the first `places` of them, from 0
+/// to 9, make a whole number, and any digits after these must be 0.
 #[derive(Clone, Copy)]
 pub struct Steps {
-    /// The number that the decimals read until now write, without those after the last decimal place
-    /// that counts.
+    /// The number that the digits read until now write; digits after the first `places` are left
+    /// out.
     pub value: u64,
-    /// The number of decimal places that count and are still to be read.
+    /// How many of the first `places` digits are still to be read.
     pub remaining: u32,
-    /// True if every digit read after the last decimal place that counts is 0.
+    /// True if each digit read after the first `places` is 0.
     pub exact: bool,
 }
 
 impl Steps {
     ghost use Rattle.decimal_text.specs.Workings.Steps.{DigitsInvariant};
 
-    /// Returns the steps after one more digit of the fraction.
+    /// Returns the state after one more digit, from 0 to 9. If it is one of the first `places`
+    /// digits, it is appended to `value`. Of a digit after these, only whether it is 0 is kept, in
+    /// `exact`.
     fn after(self, digit: u8) -> Steps
         requires one { digit ≤ 9 }
         requires room { (self.value + 1) * 10 ^ self.remaining ≤ 10 ^ 9 }
@@ -59,8 +61,8 @@ impl Steps {
         }
     }
 
-    /// Returns the number of steps of `1 / 10^places` if the fraction ends here: each decimal place not
-    /// read counts as 0.
+    /// Returns the number of steps of `1 / 10^places` if no more digits follow, below 10^9: each of
+    /// the first `places` digits that is missing counts as 0.
     pub fn total(self) -> u64
         requires { (self.value + 1) * 10 ^ self.remaining ≤ 10 ^ 9 }
         ensures value { result ≡ self.value * 10 ^ self.remaining }
@@ -69,8 +71,8 @@ impl Steps {
         self.value * power_of_ten(self.remaining)
     }
 
-    /// Returns the state after all digits of `fraction`, of which the first `places` count, or `None`
-    /// if `fraction` has a byte that isn't a digit. `places` is from 0 to 9.
+    /// Returns the state after all digits in `fraction`, of which the first `places`, from 0 to 9,
+    /// make the number. Returns `None` if a byte of `fraction` isn't a digit.
     pub fn over(fraction: &[u8], places: u32) -> Option<Steps>
         requires { places ≤ 9 }
         ensures { MatchOption result

@@ -1,11 +1,11 @@
-//! Text in UTF-8.
+//! Owned text in UTF-8.
 
 ghost use Rattle.std.specs.Prelude.{◌≡◌, List, ℕ, [], IfOk, string_bytes};
 
 use std::alloc::{AllocError, Global};
 use std::marker::Model;
 
-/// An owned text in UTF-8. In contracts its value is the list of its bytes.
+/// An owned text in UTF-8, which can't be changed. In contracts its value is the list of its bytes.
 #[derive(Clone, Debug, Drop)]
 pub struct Text {
     text: String,
@@ -27,10 +27,10 @@ impl Text {
         }
     }
 
-    /// Returns an owned text with the bytes of `text`.
+    /// Returns a text with the bytes of `text`, which are copied.
     ///
     /// # Errors
-    /// [`AllocError`] if memory runs out.
+    /// [`AllocError`]: if memory runs out.
     pub fn from_str(alloc: Global, text: &str) -> Result<Text, AllocError>
         ensures { IfOk result (λ t. t ≡ text.now) }
     {
@@ -39,7 +39,7 @@ impl Text {
         })
     }
 
-    /// Borrows the text as a `str`.
+    /// Borrows the text as a `str` with the same bytes.
     pub fn as_str(&self) -> &str
         ensures { result.now ≡ self.now }
     {
@@ -49,7 +49,7 @@ impl Text {
     /// Returns a second text with the same bytes.
     ///
     /// # Errors
-    /// [`AllocError`] if memory runs out.
+    /// [`AllocError`]: if memory runs out.
     pub fn copy(&self) -> Result<Text, AllocError>
         ensures { IfOk result (λ t. t ≡ self.now) }
     {

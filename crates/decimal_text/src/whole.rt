@@ -1,4 +1,4 @@
-//! Whole numbers written in only digits.
+//! Whole numbers written in digits only, without a sign.
 
 ghost use Rattle.std.specs.Prelude.{◌≡◌, ◌<◌, ◌≤◌, ◌^◌, true, length};
 ghost use Rattle.std.specs.Option.{ForSome};
@@ -7,19 +7,21 @@ ghost use Rattle.std.specs.Char.{is_ascii_digit};
 ghost use Rattle.std.specs.Str.Parse.{digits_value};
 ghost use Rattle.decimal_text.specs.Digits.{digits_of};
 
-/// The number of digits that always fit 64 bits; [`HALF`] is the first number that needs one digit more.
+/// The greatest number of digits that always fit 64 bits.
 const HALF_DIGITS: usize = 19;
 
+/// The least number with one digit more, 10^19.
 const HALF: u128 = 10_000_000_000_000_000_000;
 
-/// Returns true if each byte of `text` is an ASCII digit; true for an empty text.
+/// Returns true if each byte of `text` is an ASCII digit, also if `text` is empty.
 pub fn are_digits(text: &[u8]) -> bool
     ensures { result ≡ list_all is_ascii_digit text.now }
 {
     text.iter().all(|byte| byte.is_ascii_digit())
 }
 
-/// Returns the number that `text`, of 0 to 19 digits, writes: 0 if there is no digit.
+/// Returns the number that the digits in `text` write, at most 19 of them; 0 if `text` is empty.
+/// The caller has checked that each byte is a digit.
 pub fn digits_value(text: &[u8]) -> u64
     requires count_bound { length text.now ≤ 19 }
     requires digits { list_all is_ascii_digit text.now ≡ true }
@@ -33,7 +35,8 @@ pub fn digits_value(text: &[u8]) -> u64
     value
 }
 
-/// Returns the number that `text`, of 0 to 38 digits, writes: 0 if there is no digit.
+/// Returns the number that the digits in `text` write, at most 38 of them; 0 if `text` is empty.
+/// The caller has checked that each byte is a digit.
 pub fn wide_digits_value(text: &[u8]) -> u128
     requires count_bound { length text.now ≤ 38 }
     requires digits { list_all is_ascii_digit text.now ≡ true }
@@ -47,8 +50,8 @@ pub fn wide_digits_value(text: &[u8]) -> u128
     u128::from(digits_value(front)) * HALF + u128::from(digits_value(back))
 }
 
-/// Returns the number that `text` writes in 1 to `most` digits, or `None` for any other text.
-/// `most` is at most 38.
+/// Returns the number that `text` writes if it has 1 to `most` bytes, all of them ASCII digits, and
+/// otherwise `None`. `most` is at most 38.
 #[tactic(auto, unfolding(crate::specs::Digits::digits_of))]
 pub fn wide_digits(text: &[u8], most: usize) -> Option<u128>
     requires { most ≤ 38 }
@@ -61,8 +64,8 @@ pub fn wide_digits(text: &[u8], most: usize) -> Option<u128>
     Some(wide_digits_value(text))
 }
 
-/// Returns the number that `text` writes in 1 to `most` digits, or `None` for any other text.
-/// `most` is at most 18.
+/// Returns the number that `text` writes if it has 1 to `most` bytes, all of them ASCII digits, and
+/// otherwise `None`. `most` is at most 18.
 ///
 /// # Examples
 /// ```

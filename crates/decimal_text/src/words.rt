@@ -1,4 +1,4 @@
-//! A list of texts, such as the arguments of a command line.
+//! A list of texts that can't be changed, such as the arguments of a command line.
 
 ghost use Rattle.std.specs.Prelude.{◌≡◌, List, ℕ, IfOk};
 
@@ -6,7 +6,8 @@ use crate::text::Text;
 use std::alloc::AllocError;
 use std::marker::Model;
 
-/// A list of texts. In contracts its value is the list of the texts' bytes.
+/// A list of texts, which can't be changed. In contracts its value is a list of lists: for each
+/// text in order, its UTF-8 bytes.
 #[derive(Clone, Drop)]
 pub struct Words {
     items: Vec<Text>,
@@ -19,24 +20,24 @@ impl Model for Words {
 }
 
 impl Words {
-    /// Returns the list of the texts in `items`. It doesn't allocate.
+    /// Returns the list with the texts in `items`, which are moved into it. It doesn't allocate.
     pub fn from_vec(items: Vec<Text>) -> Words
         ensures { result ≡ items.items }
     {
         Words { items }
     }
 
-    /// Borrows the texts as a slice.
+    /// Borrows the texts, in order, as a slice.
     pub fn as_slice(&self) -> &[Text]
         ensures { result.now ≡ self.now }
     {
         self.items.as_slice()
     }
 
-    /// Returns a second list of the same texts.
+    /// Returns a second list with the same texts.
     ///
     /// # Errors
-    /// [`AllocError`] if memory runs out.
+    /// [`AllocError`]: if memory runs out.
     pub fn copy(&self) -> Result<Words, AllocError>
         ensures { IfOk result (λ w. w ≡ self.now) }
     {

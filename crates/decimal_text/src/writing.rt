@@ -1,4 +1,4 @@
-//! Writing numbers as decimals.
+//! Writing whole numbers of steps of `1 / 10^places` as decimals.
 
 ghost use Rattle.std.specs.Prelude.{◌≡◌, ℕ, ◌+◌, ◌/◌, ◌^◌, ◌<◌, ◌≤◌, [], ◌∷◌, ◌++◌, length, unsigned_abs};
 ghost use Rattle.arrayvec.specs.ArrayString.{array_string_len};
@@ -9,10 +9,11 @@ use crate::digit::push_digit;
 use arrayvec::ArrayString;
 use itoa::Buffer;
 
-/// Writes `value / 10^places` to the empty `out` with exactly `places` decimals, from 0 to 6.
+/// Writes `value / 10^places` to `out`, which is empty, as a decimal with exactly `places` digits
+/// after the point; `places` is from 0 to 6.
 ///
-/// The text has at least one digit before the point, `-` only if the value is negative, and no point if
-/// `places` is 0. It doesn't allocate.
+/// The decimal has at least one digit before the point, `-` if the value is negative and no sign
+/// otherwise, and no point if `places` is 0. It doesn't allocate.
 ///
 /// # Examples
 /// ```
@@ -33,7 +34,7 @@ pub fn write(value: i64, places: u32, out: &mut ArrayString<24>)
     push_fraction(size, places, out);
 }
 
-/// Appends `-` if `value` is negative.
+/// Appends `-` to `out` if `value` is negative.
 fn push_minus(value: i64, out: &mut ArrayString<24>)
     requires { length out.old.bytes < 24 }
     ensures { out.new.bytes ≡ out.old.bytes ++ minus_of value }
@@ -43,7 +44,7 @@ fn push_minus(value: i64, out: &mut ArrayString<24>)
     }
 }
 
-/// Appends the point and the last `places` digits of `size`, or nothing if `places` is 0.
+/// Appends the point and the last `places` digits of `size` to `out`, or nothing if `places` is 0.
 fn push_fraction(size: u64, places: u32, out: &mut ArrayString<24>)
     requires count_bound { places ≤ 6 }
     requires room { length out.old.bytes + 1 + places ≤ 24 }
@@ -55,7 +56,7 @@ fn push_fraction(size: u64, places: u32, out: &mut ArrayString<24>)
     }
 }
 
-/// Appends the last `places` digits of `size`, the highest first.
+/// Appends the last `places` digits of `size` to `out`, with zeros at the start if `size` has less.
 fn push_last_digits(size: u64, places: u32, out: &mut ArrayString<24>)
     requires count_bound { places ≤ 6 }
     requires room { length out.old.bytes + places ≤ 24 }
@@ -66,8 +67,8 @@ fn push_last_digits(size: u64, places: u32, out: &mut ArrayString<24>)
     }
 }
 
-/// Returns `size` without its last `places` digits. Divisors that the compiler knows become products,
-/// which take a fraction of a division's time.
+/// Returns `size` divided by 10^`places`, rounded down; `places` is from 0 to 6. Each divisor is a
+/// constant, for which the compiler multiplies instead of dividing.
 fn without_last(size: u64, places: u32) -> u64
     requires { places ≤ 6 }
     ensures { result ≡ size / 10 ^ places }

@@ -1,9 +1,10 @@
--- The state of reading a decimal's fraction digit by digit.
+-- The state of reading the digits after the point of a decimal.
 use Rattle.std.specs.Prelude.{◌≡◌, ℕ, ◌+◌, ◌*◌, ◌^◌, ◌<◌, ◌≤◌, true, false, ◌⊎◌}
 use Rattle.decimal_text.specs.declared.steps.Steps.{Steps}
 
--- the first `count` digits of the fraction, read as one number, are n; `extra` of them follow the last
--- decimal place
+-- `DigitsInvariant places count n s`: true of the state s after `count` digits, which write the
+-- number n: its `value` is n without the digits after the first `places`, of which there are
+-- `extra`, and `exact` is true if these are all 0
 pub record DigitsInvariant (places count n : ℕ) (s : Steps) : Type 0 where
   pub extra : ℕ
   pub counted : count + s.remaining ≡ places + extra
