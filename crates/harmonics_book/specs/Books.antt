@@ -1,21 +1,21 @@
--- The validity of a book: the counts, ranges and names that a file of harmonic constants can have (this
+-- Valid books: the numbers and names are in the ranges that a harmonics file can have (this
 -- project).
 use Rattle.std.specs.Prelude.{◌≡◌, ℕ, ℤ, pos, negsuc, ◌*◌, ◌≤◌, ◌≤ℤ◌, ◌⊎◌, List, length, All, encode_utf8_all}
 use Rattle.harmonics_book.specs.declared.book.Constituent.{Constituent}
 use Rattle.harmonics_book.specs.declared.book.Station.{Station}
 use Rattle.harmonics_book.specs.declared.book.Book.{Book}
 
--- x is from low to high, both included
+-- `IsWithin low high x`: true if x is from `low` to `high`, both included
 pub record IsWithin (low high x : ℤ) : Type 0 where
   pub least : low ≤ℤ x
   pub most : x ≤ℤ high
 
--- a byte of a name in ISO 8859-1: printable ASCII with the space, or from 128 on
+-- true if a name may have this byte of ISO 8859-1: if it is from 32 to 126 or from 128 to 255
 abbrev pub IsLatinNameByte : ℕ → Type 0
 IsLatinNameByte b = ((32 ≤ b) × (b ≤ 126)) ⊎ ((128 ≤ b) × (b ≤ 255))
 
--- a name: the UTF-8 text of 1 to `most` characters of ISO 8859-1, none of them a control character of
--- ASCII
+-- `IsName most name`: true if `name` is, in UTF-8, a text of 1 to `most` characters of ISO 8859-1,
+-- none of them a control character of ASCII (0 to 31, or 127)
 pub record IsName (most : ℕ) (name : List ℕ) : Type 0 where
   pub latin : List ℕ
   pub spelled : name ≡ encode_utf8_all latin
@@ -23,14 +23,15 @@ pub record IsName (most : ℕ) (name : List ℕ) : Type 0 where
   pub short : length latin ≤ most
   pub printable : All IsLatinNameByte latin
 
--- a valid constituent: its name has 1 to 32 characters, and its speed is from 0 to 3,600,000,000
--- ten-millionths of a degree an hour
+-- true of a valid constituent: its name has 1 to 32 characters, and its speed is from 0 to
+-- 3,600,000,000 ten-millionths of a degree an hour
 pub record IsConstituent (c : Constituent) : Type 0 where
   pub name : IsName 32 c.name
   pub speed : IsWithin (pos 0) (pos 3600000000) c.speed
 
--- a valid station of a book with `count` constituents: its name and values are in the ranges of a file,
--- and it has an amplitude and an epoch for each constituent
+-- `IsStation count s`: true of a valid station in a book of `count` constituents. Its name has 1 to
+-- 200 characters; the meridian is in minutes, the datum and the amplitudes in millionths of its
+-- unit, the epochs in ten-millionths of a degree; there are `count` amplitudes and `count` epochs.
 pub record IsStation (count : ℕ) (s : Station) : Type 0 where
   pub name : IsName 200 s.name
   pub meridian : IsWithin (negsuc 958) (pos 959) s.meridian
@@ -40,7 +41,9 @@ pub record IsStation (count : ℕ) (s : Station) : Type 0 where
   pub epochs : length s.epoch ≡ count
   pub epoch : All (IsWithin (negsuc 7199999999) (pos 7200000000)) s.epoch
 
--- a valid book: its counts, names and values are in the ranges of a file
+-- true of a valid book: 1 to 500 valid constituents, a first year from 2 to 8800, 1 to 500 years,
+-- an equilibrium argument (from -720 to 720 degrees, in ten-millionths) and a node factor (from 0
+-- to 10, in millionths) for each constituent and year, and at most 20,000 valid stations
 pub record IsBook (b : Book) : Type 0 where
   pub some_constituents : 1 ≤ length b.constituents
   pub few_constituents : length b.constituents ≤ 500

@@ -1,9 +1,11 @@
--- A small book: one constituent, three years and one station (this project).
+-- An example of a book, which other examples use: one constituent, three years and one station
+-- (this project).
 use Rattle.std.specs.Prelude.{pos, [], ◌∷◌, codes}
 use Rattle.harmonics_book.specs.declared.book.Book.{Book}
 use Rattle.harmonics_book.specs.declared.book.Units.TheVariants.{Feet}
 
--- the book of a pier with a half-daily tide, for 1999 to 2001
+-- the book of a station with a tide of period 12 hours and amplitude 1 foot, for the years 1999 to
+-- 2001
 abbrev pub pier_book : Book
 pier_book = record {
   constituents = record { name = codes "S2"; speed = pos 300000000 } ∷ [];

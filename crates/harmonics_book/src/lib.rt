@@ -1,9 +1,10 @@
-//! The content of a file of harmonic constants.
+//! The content of a harmonics file: a text file of harmonic constants in the format of XTide's
+//! tools.
 //!
-//! A [`Book`] is the content of one file, in the format of the text files of XTide's tools: the
-//! constituents with their speeds, the equilibrium arguments and node factors of each year, and the
-//! stations with their amplitudes and epochs. A [`ValidBook`] is a book with values that are proved to
-//! be in the ranges of a file. The crate `harmonics_text` reads a book from the bytes of a file.
+//! A [`Book`] has the constituents with their speeds, the equilibrium arguments and node factors of
+//! each year, and the stations with their amplitudes and epochs. A [`ValidBook`] is a borrowed book
+//! whose numbers and names are proved to be in the ranges of a file. The crate `harmonics_text`
+//! reads a book from the bytes of a file.
 #![tactic(auto)]
 
 mod book;

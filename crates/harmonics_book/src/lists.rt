@@ -1,4 +1,4 @@
-//! The lists of constituents and stations in a book.
+//! The lists of a book's constituents and of its stations.
 
 ghost use Rattle.std.specs.Prelude.{◌≡◌, [], ◌∷◌, ◌++◌, OnOk};
 
@@ -6,7 +6,8 @@ use crate::book::{Constituent, Station};
 use std::alloc::{AllocError, Global};
 use std::marker::Model;
 
-/// The constituents of a book, in the file's order.
+/// A growing list of constituents, in the order of the file. In contracts its value is the list of
+/// its items.
 #[derive(Debug, Drop)]
 pub struct Constituents {
     items: Vec<Constituent>,
@@ -22,14 +23,15 @@ impl Model for Constituents {
 }
 
 impl Constituents {
-    /// Returns the list of the constituents in `items`. It doesn't allocate.
+    /// Returns the list with the constituents in `items`, which are moved into it. It doesn't
+    /// allocate.
     pub fn from_vec(items: Vec<Constituent>) -> Constituents
         ensures { result ≡ items.items }
     {
         Constituents { items }
     }
 
-    /// Returns the empty list. It doesn't allocate.
+    /// Returns an empty list. It doesn't allocate.
     pub fn empty(alloc: Global) -> Constituents
         ensures { result ≡ [] }
     {
@@ -38,10 +40,10 @@ impl Constituents {
         }
     }
 
-    /// Appends `constituent`.
+    /// Appends `constituent` to the list.
     ///
     /// # Errors
-    /// [`AllocError`] if memory runs out.
+    /// [`AllocError`]: if memory runs out.
     pub fn push(&mut self, constituent: Constituent) -> Result<(), AllocError>
         ensures { OnOk result (self.new ≡ self.old ++ constituent ∷ []) }
     {
@@ -49,7 +51,7 @@ impl Constituents {
         Ok(())
     }
 
-    /// Borrows the constituents as a slice.
+    /// Borrows the constituents, in order, as a slice.
     pub fn as_slice(&self) -> &[Constituent]
         ensures { result.now ≡ self.now }
     {
@@ -57,7 +59,8 @@ impl Constituents {
     }
 }
 
-/// The stations of a book, in the file's order.
+/// A growing list of stations, in the order of the file. In contracts its value is the list of its
+/// items.
 #[derive(Debug, Drop)]
 pub struct Stations {
     items: Vec<Station>,
@@ -73,14 +76,14 @@ impl Model for Stations {
 }
 
 impl Stations {
-    /// Returns the list of the stations in `items`. It doesn't allocate.
+    /// Returns the list with the stations in `items`, which are moved into it. It doesn't allocate.
     pub fn from_vec(items: Vec<Station>) -> Stations
         ensures { result ≡ items.items }
     {
         Stations { items }
     }
 
-    /// Returns the empty list. It doesn't allocate.
+    /// Returns an empty list. It doesn't allocate.
     pub fn empty(alloc: Global) -> Stations
         ensures { result ≡ [] }
     {
@@ -89,10 +92,10 @@ impl Stations {
         }
     }
 
-    /// Appends `station`.
+    /// Appends `station` to the list.
     ///
     /// # Errors
-    /// [`AllocError`] if memory runs out.
+    /// [`AllocError`]: if memory runs out.
     pub fn push(&mut self, station: Station) -> Result<(), AllocError>
         ensures { OnOk result (self.new ≡ self.old ++ station ∷ []) }
     {
@@ -100,7 +103,7 @@ impl Stations {
         Ok(())
     }
 
-    /// Borrows the stations as a slice.
+    /// Borrows the stations, in order, as a slice.
     pub fn as_slice(&self) -> &[Station]
         ensures { result.now ≡ self.now }
     {

@@ -1,4 +1,4 @@
-//! A book that is proved to be valid.
+//! A borrowed book that is proved to be valid.
 
 ghost use Rattle.std.specs.Prelude.{◌≡◌};
 ghost use Rattle.harmonics_book.specs.Books.{IsBook};
@@ -6,8 +6,8 @@ ghost use Rattle.harmonics_book.specs.Books.{IsBook};
 use crate::book::Book;
 use std::marker::Model;
 
-/// A borrowed book, proved to be valid: its counts, names and values are in the ranges that a file of
-/// harmonic constants can have. In contracts its value is the book.
+/// A borrowed book that is proved to be valid: the counts of its parts, its names and its numbers
+/// are in the ranges of a harmonics file. In contracts its value is the book.
 #[derive(Drop)]
 pub struct ValidBook<'a> {
     book: &'a Book,
@@ -26,8 +26,8 @@ impl<'a> Model for ValidBook<'a> {
 }
 
 impl<'a> ValidBook<'a> {
-    /// Returns `book` as a valid book; the caller proves that its counts, names and values are in the
-    /// ranges of a file.
+    /// Returns `book` as a valid book. Callers prove that the counts of its parts, its names and
+    /// its numbers are in the ranges of a harmonics file; nothing is checked at run time.
     pub fn new(book: &'a Book) -> ValidBook<'a>
         requires { IsBook book.now }
         ensures { result ≡ book.now }
@@ -35,7 +35,7 @@ impl<'a> ValidBook<'a> {
         ValidBook { book }
     }
 
-    /// Borrows the book that is proved to be valid.
+    /// Borrows the book, which is proved to be valid.
     pub fn get(&self) -> &'a Book
         ensures exact { result.now ≡ self.now }
         ensures valid { IsBook self.now }
