@@ -1,4 +1,5 @@
--- The machine's value of a struct with one empty field, and what it owns. Assumes `Logic`.
+-- Lemmas about a struct with one field that is an empty struct: its value at run time, and what it
+-- owns. They are stated for any `Logic`, the rules of ownership that proofs of this kind use.
 use Rattle.std.proofs.Common.{List, [], ◌∷◌, refl}
 use seplogic.Ra.Ura.{Ura}
 use mir.Val.{Val, vstruct, vcons, vnil}
@@ -8,13 +9,15 @@ use denote.RattleType.{RattleType, Valss}
 use denote.Steps.{nothing}
 use denote.Struct.Struct.{Struct, within}
 
--- a struct by its fields alone: what it owns does not read its name
+-- the struct type with these field types and no name: a struct's name doesn't bear on what it owns
 abbrev pub plainly : List RattleType → RattleType
 plainly rows = Struct (record { name = []; args = []; types = []; fields = rows })
 
+-- the run-time value of a struct without fields
 abbrev pub none : Val
 none = vstruct vnil
 
+-- the run-time value of a struct with one field of this value
 abbrev pub one : Val → Val
 one value = vstruct (vcons value vnil)
 

@@ -1,6 +1,6 @@
-//! A list that exists only in proofs, such as a record of the bytes read and written over a connection.
+//! A list that exists only in contracts and proofs, such as the bytes that a file reader was given.
 //!
-//! At run time a [`Log`] is empty: it allocates nothing and copies no item.
+//! At run time a [`Log`] has no content: it takes no memory, and appending to it copies nothing.
 #![tactic(auto)]
 
 mod log;

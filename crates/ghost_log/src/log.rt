@@ -1,4 +1,4 @@
-//! A list that exists only in proofs.
+//! A list that exists only in contracts and proofs.
 
 ghost use Rattle.std.specs.Prelude.{◌≡◌, List, [], ◌++◌};
 ghost use Rattle.std.specs.Borrow.{ftrue};
@@ -6,8 +6,8 @@ ghost use Rattle.std.specs.Borrow.{ftrue};
 use std::fmt;
 use std::marker::{Model, PhantomData};
 
-/// A list of items that exists only in proofs; at run time it is empty and takes no memory. Contracts
-/// read its `items`.
+/// A list of items that exists only in contracts and proofs, as its field `items`. At run time it
+/// takes no memory.
 #[derive(Drop)]
 pub struct Log<T> {
     of: PhantomData<T>,
@@ -25,14 +25,15 @@ impl<T> fmt::Debug for Log<T> {
 }
 
 impl<T> Log<T> {
-    /// Returns the empty list.
+    /// Returns the empty list. It doesn't allocate.
     pub fn new() -> Log<T>
         ensures { result.items ≡ [] }
     {
         Log { of: PhantomData }
     }
 
-    /// Returns this list followed by `_items`. It does nothing at run time.
+    /// Returns the list with the items of this one and then the items of `_items`. Nothing is
+    /// copied at run time.
     pub fn then(&self, _items: &[T]) -> Log<T>
         ensures { result.items ≡ self.now.items ++ _items.now }
     {
