@@ -1,4 +1,4 @@
-//! The constituents: their names and speeds.
+//! The constituents of the sample file: their names and speeds.
 
 ghost use Rattle.std.specs.Prelude.{◌≡◌, ◌+◌, ◌<◌, ◌≤◌, ◌^◌, pos, OnOk};
 ghost use Rattle.decimal_text.specs.Writing.{write_of};
@@ -8,10 +8,14 @@ ghost use Rattle.sample_tides.specs.Parts.{append};
 use crate::sample_writer::SampleWriter;
 use std::alloc::AllocError;
 
-/// The number of constituents of the file.
+/// The number of constituents in the file.
 pub(crate) const CONSTITUENTS: u32 = 37;
 
-/// Appends the name of constituent `number`, counted from 1.
+/// Appends the name of a constituent: M2, S2, N2, K1 and O1 for the numbers 1 to 5, and `C` with
+/// the number for the others.
+///
+/// # Errors
+/// [`AllocError`]: if memory runs out.
 #[tactic(auto, using(crate::proofs::PartsLemmas::append_twice), unfolding(crate::specs::File::name_of))]
 pub(crate) fn append_name(writer: &mut SampleWriter, number: u32) -> Result<(), AllocError>
     ensures { OnOk result (writer.new ≡ append (name_of number) writer.old) }
@@ -29,7 +33,11 @@ pub(crate) fn append_name(writer: &mut SampleWriter, number: u32) -> Result<(), 
     }
 }
 
-/// Appends the line of constituent `number`, from 6 on: its name and a drawn speed in degrees an hour.
+/// Appends the line of the made-up constituent `number`, 6 or more: its name, and a drawn speed in
+/// degrees per hour.
+///
+/// # Errors
+/// [`AllocError`]: if memory runs out.
 #[tactic(auto, using(crate::proofs::PartsLemmas::append_twice), unfolding(crate::specs::File::constituent))]
 pub(crate) fn append_constituent(writer: &mut SampleWriter, number: u32) -> Result<(), AllocError>
     ensures { OnOk result (writer.new ≡ constituent number writer.old) }
@@ -41,7 +49,8 @@ pub(crate) fn append_constituent(writer: &mut SampleWriter, number: u32) -> Resu
     writer.append(b"\n")
 }
 
-/// Appends `speed`, in ten-millionths of a degree an hour, as degrees an hour.
+/// Appends `speed`, in ten-millionths of a degree per hour, as degrees per hour with seven
+/// decimals.
 fn append_speed(writer: &mut SampleWriter, speed: u32) -> Result<(), AllocError>
     ensures { OnOk result (writer.new ≡ append (write_of (pos speed) 7) writer.old) }
 {
@@ -49,6 +58,8 @@ fn append_speed(writer: &mut SampleWriter, speed: u32) -> Result<(), AllocError>
     writer.whole(u64::from(speed % 10))
 }
 
+/// Returns the least speed of constituent `number`, in ten-millionths of a degree per hour: 27
+/// degrees per hour if the number is even, else 13.
 fn slowest(number: u32) -> u32
     ensures value { result ≡ slowest_of number }
     ensures small { result ≤ 270000000 }

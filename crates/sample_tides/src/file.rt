@@ -1,4 +1,4 @@
-//! The whole sample file.
+//! The sample file, from its title to its last station.
 
 ghost use Rattle.std.specs.Prelude.{◌≡◌, ◌≤◌, ◌++◌, codes, decimal, length, IfOk, OnOk};
 ghost use Rattle.sample_tides.specs.File.{heading, file, sample_of};
@@ -13,26 +13,29 @@ use crate::tables::append_table;
 use decimal_text::Bytes;
 use std::alloc::{AllocError, Global};
 
+/// The number of stations in the file.
 const STATIONS: u32 = 200;
 
+/// Equilibrium arguments: 0.00 to 359.99 degrees.
 const ARGUMENT: Quantity = Quantity {
     least: 0,
     bound: 36_000,
     places: 2,
 };
 
+/// Node factors: 0.8000 to 1.2000.
 const FACTOR: Quantity = Quantity {
     least: 8_000,
     bound: 4_001,
     places: 4,
 };
 
-/// Returns the sample file of `seed`, the first state of the generator: a harmonics file of 8,192 lines
-/// with made-up constants. It has 37 constituents, 30 years from 2000 on and 200 stations, of which
-/// every fifth is a current station.
+/// Returns the sample file for `seed`, the first state of the generator: a harmonics file of 8,192
+/// lines with made-up constants, in at most 400,000,000 bytes. It has 37 constituents, the years
+/// 2000 to 2029 and 200 stations; every fifth station is a current in knots.
 ///
 /// # Errors
-/// [`AllocError`] if memory runs out.
+/// [`AllocError`]: if memory runs out.
 #[tactic(auto, unfolding(crate::specs::File::sample_of))]
 pub fn sample(alloc: Global, seed: u64) -> Result<Bytes, AllocError>
     ensures exact { IfOk result (λ bytes. bytes ≡ sample_of seed) }
@@ -43,6 +46,7 @@ pub fn sample(alloc: Global, seed: u64) -> Result<Bytes, AllocError>
     Ok(writer.into_bytes())
 }
 
+/// Appends the whole file; the writer's generator is in its first state, `seed`.
 #[tactic(auto, unfolding(crate::specs::File::file))]
 fn append_file(writer: &mut SampleWriter, seed: u64) -> Result<(), AllocError>
     ensures { OnOk result (writer.new ≡ file seed writer.old) }
@@ -62,6 +66,8 @@ fn append_file(writer: &mut SampleWriter, seed: u64) -> Result<(), AllocError>
     Ok(())
 }
 
+/// Appends the title, a comment with the seed, the number of constituents and the lines of the
+/// first five.
 #[tactic(auto, unfolding(crate::specs::File::heading))]
 fn append_heading(writer: &mut SampleWriter, seed: u64) -> Result<(), AllocError>
     ensures { OnOk result (writer.new ≡ heading seed writer.old) }
@@ -75,6 +81,7 @@ fn append_heading(writer: &mut SampleWriter, seed: u64) -> Result<(), AllocError
     writer.line(b"O1 13.9430356")
 }
 
+/// Appends a comment line with the seed.
 #[tactic(auto, using(crate::proofs::PartsLemmas::append_twice))]
 fn append_title(writer: &mut SampleWriter, seed: u64) -> Result<(), AllocError>
     ensures { OnOk result (writer.new ≡ line (codes "# sample tides, seed " ++ decimal seed) writer.old) }

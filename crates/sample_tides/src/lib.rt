@@ -1,8 +1,8 @@
-//! A harmonics file of made-up constants, drawn from a seed.
+//! A harmonics file of made-up constants, for tests and measurements of a predictor.
 //!
-//! [`sample`] returns the same file for the same seed, so tests and measurements of a predictor need no
-//! other data. Its constants belong to no real station. `specs/File.antt` defines the file line
-//! by line.
+//! [`sample`] returns the same file for the same seed. The constants of its stations, which don't
+//! exist, are drawn from a generator of pseudorandom numbers. `specs/File.antt` defines the file
+//! line by line.
 #![tactic(auto)]
 
 mod constituents;

@@ -1,8 +1,9 @@
-//! The range of the values of a table.
+//! The range of the values in a table.
 
 ghost use Rattle.std.specs.Prelude.{◌+◌, ◌<◌, ◌≤◌, ◌^◌};
 
-/// A range of decimals: the numbers from `least` to `least + bound - 1`, each over `10^places`.
+/// A range of decimals with `places` decimal places, from 0 to 6: the numbers from `least` to
+/// `least + bound - 1`, each divided by 10^`places`. `bound` isn't 0.
 #[derive(Clone, Copy)]
 pub(crate) struct Quantity {
     pub(crate) least: u32,

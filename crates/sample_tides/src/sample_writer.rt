@@ -1,4 +1,4 @@
-//! The text written until now, with the generator of its numbers.
+//! A writer of text with a generator of pseudorandom numbers.
 
 ghost use Rattle.std.specs.Prelude.{◌≡◌, ◌<◌, ◌≤◌, [], IfOk, OnOk, pos, decimal};
 ghost use Rattle.decimal_text.specs.Writing.{write_of};
@@ -11,7 +11,8 @@ use itoa::Buffer;
 use std::alloc::{AllocError, Global};
 use std::marker::Model;
 
-/// The text written until now, and the generator of the numbers that are still to be drawn.
+/// The text written until now, and the generator of the numbers in the text that follows. In
+/// contracts its value is a record of the text's bytes and the generator's state.
 #[derive(Drop)]
 pub(crate) struct SampleWriter {
     text: Vec<u8>,
@@ -29,7 +30,7 @@ impl Model for SampleWriter {
 impl SampleWriter {
     ghost use Rattle.sample_tides.specs.Parts.{append, line, moved};
 
-    /// Returns the empty text, with a generator with the first state `seed`.
+    /// Returns a writer without text; the generator's state is `seed`.
     pub(crate) fn new(alloc: Global, seed: u64) -> SampleWriter
         ensures { result ≡ record { text = []; state = seed } }
     {
@@ -39,7 +40,8 @@ impl SampleWriter {
         }
     }
 
-    /// Draws a number from 0 to `bound - 1`.
+    /// Advances the generator once, and returns a number from 0 to `bound - 1` by its new state.
+    /// `bound` isn't 0.
     #[tactic(auto, unfolding(crate::specs::Parts::moved))]
     pub(crate) fn draw(&mut self, bound: u32) -> u32
         requires { 0 < bound }
@@ -50,7 +52,10 @@ impl SampleWriter {
         self.generator.draw(bound)
     }
 
-    /// Appends `text`.
+    /// Appends the bytes in `text`.
+    ///
+    /// # Errors
+    /// [`AllocError`]: if memory runs out.
     #[tactic(auto, unfolding(crate::specs::Parts::append))]
     pub(crate) fn append(&mut self, text: &[u8]) -> Result<(), AllocError>
         ensures { OnOk result (self.new ≡ append text.now self.old) }
@@ -58,7 +63,10 @@ impl SampleWriter {
         self.text.extend_from_slice(text)
     }
 
-    /// Appends `text` and the end of a line.
+    /// Appends `text` as a line, with an LF at its end.
+    ///
+    /// # Errors
+    /// [`AllocError`]: if memory runs out.
     #[tactic(auto, using(crate::proofs::PartsLemmas::append_twice))]
     pub(crate) fn line(&mut self, text: &[u8]) -> Result<(), AllocError>
         ensures { OnOk result (self.new ≡ line text.now self.old) }
@@ -67,14 +75,20 @@ impl SampleWriter {
         self.append(b"\n")
     }
 
-    /// Appends the digits of `number`.
+    /// Appends `number` in digits.
+    ///
+    /// # Errors
+    /// [`AllocError`]: if memory runs out.
     pub(crate) fn whole(&mut self, number: u64) -> Result<(), AllocError>
         ensures { OnOk result (self.new ≡ append (decimal number) self.old) }
     {
         self.append(Buffer::new().format(number).as_bytes())
     }
 
-    /// Appends `value / 10^places` with exactly `places` decimals, at most 6.
+    /// Appends `value / 10^places` as a decimal with exactly `places` decimal places, at most 6.
+    ///
+    /// # Errors
+    /// [`AllocError`]: if memory runs out.
     pub(crate) fn decimal(&mut self, value: u32, places: u32) -> Result<(), AllocError>
         requires { places ≤ 6 }
         ensures { OnOk result (self.new ≡ append (write_of (pos value) places) self.old) }
@@ -82,7 +96,11 @@ impl SampleWriter {
         self.signed(i64::from(value), places)
     }
 
-    /// Appends `value / 10^places` with exactly `places` decimals, at most 6, and `-` if it is negative.
+    /// Appends `value / 10^places`, which may be negative, as a decimal with exactly `places`
+    /// decimal places, at most 6.
+    ///
+    /// # Errors
+    /// [`AllocError`]: if memory runs out.
     pub(crate) fn signed(&mut self, value: i64, places: u32) -> Result<(), AllocError>
         requires { places ≤ 6 }
         ensures { OnOk result (self.new ≡ append (write_of value places) self.old) }
@@ -92,7 +110,7 @@ impl SampleWriter {
         self.append(text.as_str().as_bytes())
     }
 
-    /// Returns the text.
+    /// Returns the text written until now, in bytes.
     pub(crate) fn into_bytes(self) -> Bytes
         ensures { result ≡ self.text }
     {

@@ -1,4 +1,4 @@
-//! The stations and their constants.
+//! The stations of the sample file and their constants.
 
 ghost use Rattle.std.specs.Prelude.{◌≡◌, ◌++◌, codes, decimal, OnOk};
 ghost use Rattle.sample_tides.specs.File.{hundredths, meridian, level, datum, constants, station};
@@ -8,7 +8,11 @@ use crate::constituents::{CONSTITUENTS, append_name};
 use crate::sample_writer::SampleWriter;
 use std::alloc::AllocError;
 
-/// Appends station `number`, counted from 1.
+/// Appends the lines of station `number`, counted from 1: its name, its meridian, its datum and a
+/// line for each constituent.
+///
+/// # Errors
+/// [`AllocError`]: if memory runs out.
 #[tactic(auto, unfolding(crate::specs::File::station))]
 pub(crate) fn append_station(writer: &mut SampleWriter, number: u32) -> Result<(), AllocError>
     ensures { OnOk result (writer.new ≡ station number writer.old) }
@@ -22,6 +26,7 @@ pub(crate) fn append_station(writer: &mut SampleWriter, number: u32) -> Result<(
     Ok(())
 }
 
+/// Appends the line with the station's name.
 #[tactic(auto, using(crate::proofs::PartsLemmas::append_twice))]
 fn append_title(writer: &mut SampleWriter, number: u32) -> Result<(), AllocError>
     ensures { OnOk result (writer.new ≡ line (codes "Station " ++ decimal number) writer.old) }
@@ -31,8 +36,8 @@ fn append_title(writer: &mut SampleWriter, number: u32) -> Result<(), AllocError
     writer.append(b"\n")
 }
 
-/// Appends the station's meridian: its local time less universal time, a drawn number of hours from -12
-/// to 12.
+/// Appends the line with a station's meridian (local time less universal time), a drawn number of
+/// hours from -12 to 12.
 #[tactic(auto, using(crate::proofs::PartsLemmas::append_twice), unfolding(crate::specs::File::meridian))]
 fn append_meridian(writer: &mut SampleWriter) -> Result<(), AllocError>
     ensures { OnOk result (writer.new ≡ meridian writer.old) }
@@ -43,7 +48,8 @@ fn append_meridian(writer: &mut SampleWriter) -> Result<(), AllocError>
     writer.append(b"\n")
 }
 
-/// Appends the datum of station `number`: its mean level and the unit.
+/// Appends the line with the datum, a mean level and its unit: 0 knots if `number` is a multiple of
+/// 5, else a drawn number of feet.
 #[tactic(auto, unfolding(crate::specs::File::datum))]
 fn append_datum(writer: &mut SampleWriter, number: u32) -> Result<(), AllocError>
     ensures { OnOk result (writer.new ≡ datum number writer.old) }
@@ -55,6 +61,7 @@ fn append_datum(writer: &mut SampleWriter, number: u32) -> Result<(), AllocError
     }
 }
 
+/// Appends the line with a drawn mean level from 0.00 to 10.00 feet.
 #[tactic(auto, using(crate::proofs::PartsLemmas::append_twice), unfolding(crate::specs::File::level))]
 fn append_level(writer: &mut SampleWriter) -> Result<(), AllocError>
     ensures { OnOk result (writer.new ≡ level writer.old) }
@@ -65,8 +72,9 @@ fn append_level(writer: &mut SampleWriter) -> Result<(), AllocError>
     writer.append(b"\n")
 }
 
-/// Appends the amplitude and the epoch of constituent `constituent`, counted from 1. Every seventh
-/// constituent is absent.
+/// Appends a station's line for a constituent, counted from 1: a drawn amplitude, below 3 units for
+/// the first five constituents and below 0.3 for the others, and a drawn epoch below 360 degrees.
+/// Each seventh constituent is absent.
 #[tactic(auto, using(crate::proofs::PartsLemmas::append_twice), unfolding(crate::specs::File::constants))]
 fn append_constants(writer: &mut SampleWriter, constituent: u32) -> Result<(), AllocError>
     ensures { OnOk result (writer.new ≡ constants constituent writer.old) }
@@ -84,6 +92,7 @@ fn append_constants(writer: &mut SampleWriter, constituent: u32) -> Result<(), A
     writer.append(b"\n")
 }
 
+/// Appends `number / 100` with two decimal places.
 #[tactic(auto, unfolding(crate::specs::File::hundredths))]
 fn append_hundredths(writer: &mut SampleWriter, number: u32) -> Result<(), AllocError>
     ensures { OnOk result (writer.new ≡ append (hundredths number) writer.old) }

@@ -1,4 +1,4 @@
-//! Tables with a value for each constituent and year.
+//! The tables of the sample file, with a value for each constituent and year.
 
 ghost use Rattle.std.specs.Prelude.{◌≡◌, OnOk};
 ghost use Rattle.sample_tides.specs.File.{value, values, table};
@@ -8,10 +8,14 @@ use crate::quantity::Quantity;
 use crate::sample_writer::SampleWriter;
 use std::alloc::AllocError;
 
+/// The number of years in each table.
 const YEARS: u32 = 30;
 
-/// Appends a table of values drawn from `quantity`: for each constituent its name and a value for each
-/// year.
+/// Appends a table and its `*END*`: for each constituent a line with its name and a line with drawn
+/// values of `quantity`, one for each of 30 years.
+///
+/// # Errors
+/// [`AllocError`]: if memory runs out.
 #[tactic(auto, unfolding(crate::specs::File::table))]
 pub(crate) fn append_table(writer: &mut SampleWriter, quantity: Quantity) -> Result<(), AllocError>
     ensures { OnOk result (writer.new ≡ table (value quantity.least quantity.bound quantity.places) writer.old) }
@@ -24,7 +28,7 @@ pub(crate) fn append_table(writer: &mut SampleWriter, quantity: Quantity) -> Res
     writer.line(b"*END*")
 }
 
-/// Appends a line with a value drawn from `quantity` for each year.
+/// Appends a line with drawn values of `quantity`, one for each of 30 years.
 #[tactic(auto, unfolding(crate::specs::File::values))]
 fn append_values(writer: &mut SampleWriter, quantity: Quantity) -> Result<(), AllocError>
     ensures { OnOk result (writer.new ≡ values (value quantity.least quantity.bound quantity.places) writer.old) }
@@ -37,6 +41,7 @@ fn append_values(writer: &mut SampleWriter, quantity: Quantity) -> Result<(), Al
     writer.append(b"\n")
 }
 
+/// Appends one drawn value of `quantity`.
 #[tactic(auto, unfolding(crate::specs::File::value))]
 fn append_value(writer: &mut SampleWriter, quantity: Quantity) -> Result<(), AllocError>
     ensures { OnOk result (writer.new ≡ value quantity.least quantity.bound quantity.places writer.old) }
