@@ -1,4 +1,5 @@
--- A book loaded from a file: a failure of reading takes precedence over a bad line (this project).
+-- The result expected of loading a book from a file, and the cause of each error. A failed read is
+-- reported rather than a bad line (this project).
 use Rattle.std.specs.Prelude.{ℕ, Bool, true, false, List, Option, Result, Ok, Err}
 use Rattle.decimal_text.specs.Expected.{◌>>=◌}
 use Rattle.harmonics_book.specs.declared.book.Book.{Book as TheBook}
@@ -11,37 +12,38 @@ use Rattle.tide_edge.specs.Whole.{whole}
 use Rattle.book_loading.specs.declared.loading.LoadFault.{LoadFault}
 use Rattle.book_loading.specs.declared.loading.LoadFault.TheVariants.{Failed, TooLong, Book}
 
--- a fault of reading as a fault of loading
+-- an error of reading a file, as an error of loading a book
 abbrev pub fault_of_reading : ReadAllFault → LoadFault
 fault_of_reading reading.Failed = Failed
 fault_of_reading reading.TooLong = TooLong
 fault_of_reading reading.NoMemory = Book form.NoMemory
 
--- the bytes of the file, or the fault of reading them as a fault of loading
+-- the bytes that were read, or the error of reading as an error of loading a book
 abbrev pub bytes_from : Result (List ℕ) ReadAllFault → Result (List ℕ) LoadFault
 bytes_from (Ok bytes) = Ok bytes
 bytes_from (Err fault) = Err (fault_of_reading fault)
 
--- the book of the bytes, or the first line that breaks a rule
+-- the book that was read, or the fault of the first bad line as an error of loading a book
 abbrev pub book_from : Result TheBook At → Result TheBook LoadFault
 book_from (Ok book) = Ok book
 book_from (Err at) = Err (Book (form.At at.line at.why))
 
--- the expected result of loading a file with these contents, if it exists: its book, if it has at most
--- `limit` bytes
+-- `loaded limit file`: the result expected for a file with these bytes, or for None if there is no
+-- such file: Failed if there is none, TooLong if it has more than `limit` bytes, else its book or
+-- the fault of its first bad line
 unfoldable pub loaded : ℕ → Option (List ℕ) → Result TheBook LoadFault
 loaded limit file = do
   bytes ← bytes_from (whole limit file)
   book_from (book_of bytes)
 
--- the cause of each fault of loading
+-- the cause of an error: a failed call on the files, the input, or that memory ran out
 abbrev pub source_of : LoadFault → Source
 source_of Failed = outside
 source_of TooLong = given
 source_of (Book form.NoMemory) = memory
 source_of (Book (form.At line why)) = given
 
--- a fault of loading is that memory ran out
+-- true if the error is that memory ran out
 abbrev pub is_out_of_memory : LoadFault → Bool
 is_out_of_memory Failed = false
 is_out_of_memory TooLong = false

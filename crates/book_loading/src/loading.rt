@@ -1,4 +1,4 @@
-//! Loading a book from a file, in pieces.
+//! Loading a book from a file that is read in pieces.
 
 ghost use Rattle.std.specs.Prelude.{◌≡◌, ◌↔◌, ◌≤◌, IsTrue, Err, IfOk};
 ghost use Rattle.harmonics_book.specs.Books.{IsBook};
@@ -16,25 +16,26 @@ use tide_edge::{Files, ReadAllFault, Receiver, pass_file};
 /// The reason why a book couldn't be loaded from a file.
 #[derive(Clone, Copy, Debug, PartialEq, Eq)]
 pub enum LoadFault {
-    /// Opening or reading the file failed.
+    /// The file couldn't be opened or read.
     Failed,
-    /// The file has more bytes than the limit that the caller gave.
+    /// The file has more bytes than the caller allows.
     TooLong,
-    /// The file has a line that breaks a rule of the format, or memory ran out.
+    /// A line of the file breaks a rule of the format, the file ends too early, or memory ran out.
     Book(BookFault),
 }
 
-/// Loads the book of the file `name`, if it has at most `limit` bytes; `limit` is at most 400,000,000.
-/// The file is read in pieces of at most 65,536 bytes, which aren't kept. It is read to its end also
-/// after a bad line, so that a failure of reading takes precedence. Whatever the result, the file is
-/// opened at most once, its end is found at most once, and at most one piece past `limit` bytes is
-/// read.
+/// Returns the book in the file `name` of `files`, if the file has at most `limit` bytes; `limit`
+/// is at most 400,000,000. The file is read in pieces of at most 65,536 bytes, which aren't kept,
+/// and to its end also after a bad line, so that a failed read is reported rather than the bad
+/// line. Whatever the result, the file is opened at most once, its end is found at most once, and
+/// at most `limit` + 65,536 bytes are read.
 ///
 /// # Errors
-/// [`LoadFault::Failed`] exactly if the count of faults of `files` grows by one; if the files are
-/// steady, this is so only if there is no file `name`. [`LoadFault::TooLong`] exactly if more than
-/// `limit` bytes were read. Otherwise [`LoadFault::Book`] with the file's first bad line, or if memory
-/// runs out.
+/// [`LoadFault::Failed`]: exactly if opening or reading fails, so that `files` counts one more
+/// fault. If `files` are steady, so that opening and reading an existing file doesn't fail, it
+/// means that there is no file `name`. [`LoadFault::TooLong`]: exactly if more than `limit` bytes
+/// were read. [`LoadFault::Book`]: for the first line that breaks a rule, if the file ends too
+/// early, or if memory runs out.
 ///
 /// # Examples
 /// ```
@@ -68,7 +69,8 @@ pub fn load_book<F: Files>(
     Ok(book?)
 }
 
-/// Feeds the bytes of a file to a reader, which returns its first fault when it finishes.
+/// Passes the bytes of a file to a reader. It reports no fault of a line: the reader keeps it and
+/// returns it when it finishes.
 struct Feeder {
     reader: BookReader,
 }
