@@ -12,10 +12,11 @@ use Rattle.year_blend.specs.Years.{year_start_of}
 use Rattle.rate_bound.specs.declared.version.Version.{Version}
 use Rattle.rate_bound.specs.Rates.{predicted_slope_rate, predicted_level_rate}
 
--- the curve whose value is the slope of a station, by every constituent of the book: it rises past 0 at
--- a low water, and falls to 0 or below at a high water; in billionths of a millionth of the station's
--- unit a minute, multiplied by 34,377,467,708 (the units of angle in a radian) and by 4,147,200,000
--- (the total weight of a blend)
+-- the curve whose value is a station's slope (the rate at which its level changes), summed over all
+-- constituents of the book. It rises past 0 at a low water, and falls to 0 or below at a high
+-- water. It is in billionths of a millionth of the station's unit a minute, multiplied by
+-- 34,377,467,708 (the units of angle in a radian) and by 4,147,200,000 (the total weight of a
+-- blend)
 abbrev pub predicted_turn : Version → Book → Station → CurveSpec
 predicted_turn version b s = record {
   first = year_start_of b.first_year;
@@ -31,9 +32,9 @@ abbrev pub over_mark : ℤ → ℤ → ℤ → ℤ → ℤ
 over_mark times plus mark level =
     (times *ℤ level) +ℤ (pos (10 ^ 6 * total_weight * 10 ^ 9) *ℤ (plus -ℤ mark))
 
--- the curve whose value is the level times `times` millionths, plus `plus` less `mark` (in millionths of
--- the station's unit), by every constituent of the book: it changes sign at each crossing of the mark;
--- if `slack` is true, the crossings are slack waters and the mark is 0
+-- the curve whose value is the level, summed over all constituents of the book, times `times`
+-- millionths, plus `plus` less `mark` (in millionths of the station's unit). It changes sign at
+-- each crossing of the mark; if `slack` is true, the crossings are slack waters, and the mark is 0
 abbrev pub predicted_mark : Version → Book → Station → ℤ → ℤ → ℤ → Bool → CurveSpec
 predicted_mark version b s times plus mark slack = record {
   first = year_start_of b.first_year;

@@ -84,8 +84,8 @@ level_rate_in version times sums (Within year) = Some (times *ℤ plain_level_ra
 level_rate_in First times sums (Across year) = None
 level_rate_in Second times sums (Across year) = Some (times *ℤ blended_level_rate (sums (year - 1)) (sums year))
 
--- the four sums, over the waves of a station, of every constituent of the book, in the year with the
--- index `year`, counted from 0
+-- the four sums over a station's waves in the year with the index `year`, counted from 0: one wave
+-- for each constituent of the book
 abbrev pub book_sums : Book → Station → ℕ → Sums
 book_sums b s year = sums_of (waves_of b s year)
 
