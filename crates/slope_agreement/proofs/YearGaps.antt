@@ -154,7 +154,7 @@ station_gap_before c m year valid at plain =
     bound_of_year c m year (predicted_gap_before c.book c.station m) valid at plain
     (λ begun. plain_gap_before c.book c.station m year valid.limits.times begun plain.here plain.there)
 
--- the bound of a station, by every constituent of the book
+-- the bound of a station from the sums over all constituents of the book
 greatest-same : (f g : ℕ → ℤ) (n : ℕ) → ((year : ℕ) → year < n → f year ≡ g year) → greatest f n ≡ greatest g n
 unfolding greatest
 greatest-same f g zero same = refl

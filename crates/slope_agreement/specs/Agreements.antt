@@ -26,15 +26,17 @@ gap_between level slope m = unsigned_abs ((pos radian *ℤ (level (m +ℤ pos 1)
 abbrev pub gap_before : (ℤ → ℤ) → (ℤ → ℤ) → ℤ → ℕ
 gap_before level slope m = unsigned_abs ((pos radian *ℤ (level (m +ℤ pos 1) -ℤ level m)) -ℤ slope (m +ℤ pos 1))
 
--- the size of the difference between the rise of a station's level from m to m + 1 and its slope at m,
--- by every constituent of the book, in billionths of a millionth of the station's unit a minute, times
--- 34,377,467,708 (the units of angle in a radian) and 4,147,200,000 (the total weight of a blend)
+-- the size of the difference between the rise of a station's level from minute m to m + 1 and its
+-- slope at m, both summed over all constituents of the book, in billionths of a millionth of the
+-- station's unit a minute, times 34,377,467,708 (the units of angle in a radian) and 4,147,200,000
+-- (the total weight of a blend)
 abbrev pub predicted_gap : Book → Station → ℤ → ℕ
 predicted_gap b s m = gap_between (predicted_level b s) (predicted_slope b s) m
 
--- the size of the difference between the rise of a station's level from m to m + 1 and its slope at m +
--- 1, by every constituent of the book, in billionths of a millionth of the station's unit a minute,
--- times 34,377,467,708 (the units of angle in a radian) and 4,147,200,000 (the total weight of a blend)
+-- the size of the difference between the rise of a station's level from minute m to m + 1 and its
+-- slope at m + 1, both summed over all constituents of the book, in billionths of a millionth of
+-- the station's unit a minute, times 34,377,467,708 (the units of angle in a radian) and
+-- 4,147,200,000 (the total weight of a blend)
 abbrev pub predicted_gap_before : Book → Station → ℤ → ℕ
 predicted_gap_before b s m = gap_before (predicted_level b s) (predicted_slope b s) m
 
@@ -66,9 +68,9 @@ greatest value (suc year) = int_max (greatest value year) (value year)
 abbrev pub agreement_of : Prediction → ℤ
 agreement_of c = greatest (λ year. year_agreement (sums_for c year)) c.book.years
 
--- a bound on the difference between the rise of a station's level in a minute and its slope, the
--- greatest bound of the book's years, by every constituent of the book, in billionths of a millionth of
--- the station's unit a minute, times 34,377,467,708 (the units of angle in a radian) and 4,147,200,000
--- (the total weight of a blend)
+-- a bound on the difference between the rise of a station's level in a minute and its slope, both
+-- summed over all constituents of the book: the greatest of the bounds of the book's years, in
+-- billionths of a millionth of the station's unit a minute, times 34,377,467,708 (the units of
+-- angle in a radian) and 4,147,200,000 (the total weight of a blend)
 abbrev pub predicted_agreement : Book → Station → ℤ
 predicted_agreement b s = greatest (λ year. year_agreement (book_sums b s year)) b.years
