@@ -1,4 +1,5 @@
--- The date of a day number is a date of the calendar with this day number, and no other date has it.
+-- Each day number from 0000-01-01 to 9999-12-31 has a date in the calendar, this date has that day
+-- number, and no other date has it.
 use Rattle.std.proofs.Common.{◌≡◌, ℕ, zero, suc, ◌+◌, ◌-◌, ◌<◌, ◌≤◌, true, false, nat_lt, refl, sym, ◌∙◌, arith, ℤ, pos, negsuc, ◌+ℤ◌, ◌≤ℤ◌, unsigned_abs}
 use borrow.Author.Tests.{ltb-true, ltb-false}
 use Rattle.jiff_core.specs.declared.civil.date.Date.{Date}
@@ -10,7 +11,8 @@ use Rattle.jiff_core.proofs.MarchLemmas.{day_count-early}
 use Rattle.jiff_core.proofs.DateLemmas.{epoch_day_injective}
 use Rattle.zone_time.specs.Dates.{CalendarDate, date_from_month, date_from_year, date_of, IsDay}
 
--- a date of the calendar in a year from 0 to 9999, and the number of days before it
+-- `IsDateAt d count`: `d` is a date of the calendar in the years 0 to 9999, and `count` is `jiff`'s
+-- day count of it
 pub record IsDateAt (d : CalendarDate) (count : ℕ) : Type 0 where
   pub year : d.year ≤ 9999
   pub low_month : 1 ≤ d.month

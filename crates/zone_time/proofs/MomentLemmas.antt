@@ -47,7 +47,8 @@ unfolding spelled two_digits
 spelled-pairs a b c d e f ha hb hc hd he hf =
     (pair_is a ha, pair_is b hb, pair_is c hc, pair_is d hd, pair_is e he, pair_is f hf)
 
--- the moment of the text of those parts
+-- a text in the form of a moment, with these numbers in its pairs of digits, reads as the moment of
+-- this date and time of day
 pub moment_of-parts : (text : List ℕ) (y m d hour minute : ℕ) → has_form text ≡ true → year_at text ≡ y
     → pair_at text 5 ≡ m → pair_at text 8 ≡ d → pair_at text 11 ≡ hour → pair_at text 14 ≡ minute → is_date y m d ≡ true
     → nat_le hour 23 ≡ true → nat_le minute 59 ≡ true
@@ -62,7 +63,7 @@ pub moment_text-spelled : (m : ℤ)
 unfolding moment_text date_text clock_text two_digits spelled
 moment_text-spelled m = refl
 
--- a minute is the first of its day plus its minute of the day
+-- a minute is the first minute of its day plus its minute of the day, which is below 1440
 pub day_and_minute : (m : ℤ) → (day_of m *ℤ pos 1440 +ℤ pos (minute_of_day m) ≡ m) × (minute_of_day m < 1440)
 day_and_minute m = (omega (arith, signed_arith), omega (arith, signed_arith))
 
@@ -92,6 +93,7 @@ date_is y m d civil low high =
       le-leb d (days_in_month (pos y) m) civil.2.1,
     )
 
+-- the text of a moment reads as this moment
 pub moment_of-moment_text : (m : ℤ) → IsMoment m → moment_of (moment_text m) ≡ Some m
 moment_of-moment_text m h =
     let time = day_and_minute m in

@@ -72,6 +72,7 @@ text_of_parts m y mo d h n civil low hour minute e =
       rw (moment_text-spelled m, is_year, is_month, is_day, minutes, hours, rest),
     )
 
+-- if a text reads as `m`, then `m` is a minute of the years 1 to 9999 and the text is its text
 pub moment_text-moment_of : (text : List ℕ) (m : ℤ) → moment_of text ≡ Some m → IsMoment m × (moment_text m ≡ text)
 moment_text-moment_of text m e =
     let names = moment_of-names text m e in

@@ -1,5 +1,5 @@
--- The clock of a zone file is that of `jiff` for its zone, and its rule continues the table if `jiff`
--- finds so.
+-- The clock of a zone file shows what `jiff` computes for the zone, and the file's rule gives the
+-- clock type of the table's last row exactly if `jiff`'s condition holds.
 use Rattle.std.proofs.Common.{◌≡◌, ℕ, zero, suc, ◌+◌, ◌-◌, ℤ, true, false, cond, int_le, ◌==◌, List, [], ◌∷◌, get_or, length, map, Option, Some, None, refl, ap, ◌∙◌, arith, vec_len}
 use Rattle.std.proofs.lemmas.Bool.Decides.{nat_tests}
 use Rattle.std.specs.List.{prefix_len}
@@ -25,7 +25,7 @@ use Rattle.jiff_tz.specs.TzifText.{TypeText, transition_text}
 use Rattle.jiff_tz.specs.Year.{year_of_nanos}
 use Rattle.zone_time.specs.ZoneFiles.{rule_moment, daylight_of, standard_time, rule_type_by, rule_type, ahead_after, seconds_ahead}
 
--- the clock type by a rule of `jiff`
+-- the clock type (offset, daylight saving flag and abbreviation) that `jiff` computes by a rule
 abbrev pub info_view : OffsetInfo → TypeText
 info_view info = record { seconds = info.offset.seconds; dst = info.dst; name = abbreviation_text info.abbreviation }
 

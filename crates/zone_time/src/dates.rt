@@ -1,4 +1,4 @@
-//! Dates and times of day as text.
+//! Writing dates and times of day as text.
 
 ghost use Rattle.std.specs.Prelude.{◌≡◌, ◌+◌, ◌<◌, ◌≤◌, [], ◌∷◌, ◌++◌, pos, ◌+ℤ◌};
 ghost use Rattle.arrayvec.specs.ArrayString.{array_string_len};
@@ -8,11 +8,11 @@ use arrayvec::ArrayString;
 use decimal_text::push_digit;
 use jiff_core::civil::Date;
 
-/// The number of minutes in a day.
+/// The number of minutes in a day, 1440.
 pub const MINUTES_OF_DAY: i64 = 1440;
 
-/// Appends the date of `day`, a day number with 1970-01-01 as 0, in the form `2000-01-10`. The year is
-/// from 0 to 9999.
+/// Appends to `out` the date with the day number `day` (1970-01-01 is 0) in the form `2000-01-10`,
+/// 10 bytes. The year is from 0 to 9999. Nothing is allocated.
 #[tactic(auto, unfolding(crate::specs::Dates::date_text))]
 pub fn write_date<const N: usize>(day: i64, out: &mut ArrayString<N>)
     requires day { IsDay day }
@@ -30,7 +30,8 @@ pub fn write_date<const N: usize>(day: i64, out: &mut ArrayString<N>)
     push_pair(date.day as u32, out);
 }
 
-/// Appends `minutes`, a number of minutes below 6000, as hours and minutes, such as `05:30`.
+/// Appends `minutes`, which are below 6000, to `out` as hours and minutes, such as `05:30`, 5
+/// bytes. Nothing is allocated.
 #[tactic(auto, unfolding(crate::specs::Dates::clock_text))]
 pub fn write_clock<const N: usize>(minutes: u32, out: &mut ArrayString<N>)
     requires room { array_string_len out.old + 5 ≤ N }
@@ -42,7 +43,7 @@ pub fn write_clock<const N: usize>(minutes: u32, out: &mut ArrayString<N>)
     push_pair(minutes % 60, out);
 }
 
-/// Appends `symbol`, an ASCII character, to `out`.
+/// Appends the ASCII character `symbol`, one byte, to `out`.
 pub fn push_ascii<const N: usize>(symbol: char, out: &mut ArrayString<N>)
     requires ascii { symbol < 128 }
     requires room { array_string_len out.old + 1 ≤ N }
@@ -61,7 +62,8 @@ fn date_from_day(day: i64) -> Date
     Date::from_days_since_min(days_since_min(day))
 }
 
-/// Returns the days from -9999-01-01, from which `jiff` counts, to `day`.
+/// Returns the number of days from -9999-01-01, the first day of `jiff`'s calendar, to the day
+/// number `day` (1970-01-01 is 0).
 fn days_since_min(day: i64) -> u32
     requires { IsDay day }
     ensures value { pos result ≡ day +ℤ pos 4371587 }

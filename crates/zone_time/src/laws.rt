@@ -1,4 +1,4 @@
-//! Theorems about dates, texts of moments, and zone files.
+//! Theorems about dates, the texts of moments, and zone files.
 
 ghost use Rattle.std.specs.Prelude.{◌≡◌, ℕ, ℤ, pos, List, Some};
 ghost use Rattle.std.specs.Bool.{Decides};
@@ -14,8 +14,9 @@ ghost use Rattle.zone_time.specs.Dates.{IsDay, date_of};
 ghost use Rattle.zone_time.specs.Moments.{IsMoment, moment_text, moment_of};
 ghost use Rattle.zone_time.specs.ZoneFiles.{seconds_ahead, goes_on};
 
-/// Proves that the date of a day number, with 1970-01-01 as 0 and in the years from 0 to 9999, is a
-/// date of `jiff`'s calendar, and that `jiff` gives this date the same day number.
+/// Proves two facts about each day number (1970-01-01 is 0) in the years 0 to 9999: the definition
+/// `date_of` gives a date of `jiff`'s calendar, and the day number that `jiff` computes for this
+/// date is the given one.
 pub fn days_have_their_date()
     ensures civil { (day : ℤ) → IsDay day →
         IsCivilDate (pos (date_of day).year) (date_of day).month (date_of day).day }
@@ -23,17 +24,18 @@ pub fn days_have_their_date()
         days_from_civil (pos (date_of day).year) (date_of day).month (date_of day).day ≡ day }
 {}
 
-/// Proves that reading the text of a moment, a minute of the years from 1 to 9999, returns the moment,
-/// and that no other text reads as the moment.
+/// Proves that reading the text of a moment (a minute of the years 1 to 9999, counted from
+/// 1970-01-01T00:00Z) returns the moment, and that any text that reads as a moment is this moment's
+/// text.
 pub fn moments_have_one_text()
     ensures read { (m : ℤ) → IsMoment m → moment_of (moment_text m) ≡ Some m }
     ensures written { (text : List ℕ) (m : ℤ) →
         moment_of text ≡ Some m → IsMoment m × (moment_text m ≡ text) }
 {}
 
-/// Proves that at each second the clock of a zone file is ahead of universal time by the offset that
-/// `jiff` computes. Also proves that a rule continues a table of changes, with the same clock at its
-/// last row, exactly if `jiff` finds that the two agree.
+/// Proves that at each second the clock of a zone file is as far ahead of universal time as `jiff`
+/// computes. Also proves that `goes_on`, which says that a rule gives the clock type of a table's
+/// last row at that row's second, is true exactly if `jiff`'s condition `FooterAgrees` holds.
 pub fn zone_files_go_by_jiff()
     ensures utc_offset { (zone : Tzif) (second : ℤ) →
         seconds_ahead (tzif_view zone) second ≡ (offset_at zone (nanos_of_seconds second)).seconds }

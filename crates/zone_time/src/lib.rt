@@ -1,8 +1,9 @@
 //! Moments and local times.
 //!
-//! A moment is a number of minutes since 1970-01-01T00:00Z. [`read_moment`] and [`write_moment`] convert
-//! between moments and texts such as `2000-01-10T00:00Z`, by the calendar of `jiff`. A [`Local`] is the
-//! local time that the [`ZoneClock`] of a [`Zone`] shows at a moment.
+//! A moment is a number of minutes since 1970-01-01T00:00Z. [`read_moment`] and [`write_moment`]
+//! convert between moments and texts such as `2000-01-10T00:00Z`, by the calendar of `jiff`. A
+//! [`Zone`] is universal time, a fixed offset, or a zone file that [`read_zone`] has parsed. Its
+//! [`ZoneClock`] shows a [`Local`] time at each moment, and [`write_local`] writes this as text.
 #![tactic(auto)]
 
 mod dates;

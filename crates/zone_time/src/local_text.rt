@@ -1,4 +1,4 @@
-//! Local times as text.
+//! Writing local times as text.
 
 ghost use Rattle.std.specs.Prelude.{◌≡◌, ◌+◌, ◌≤◌, ◌++◌, length};
 ghost use Rattle.arrayvec.specs.ArrayString.{array_string_len};
@@ -8,8 +8,9 @@ use crate::dates::{MINUTES_OF_DAY, push_ascii, write_clock, write_date};
 use crate::local::{Label, Local};
 use arrayvec::ArrayString;
 
-/// Appends `local` with its label, as `2000-01-10 06:00 UTC` or `2000-01-10 01:00 -05:00`, in 20 or 23
-/// bytes. The local year is from 0 to 9999, and an offset is from -1560 to 1560 minutes.
+/// Appends `local` and its label to `out`, as `2000-01-10 06:00 UTC` (20 bytes) or
+/// `2000-01-10 01:00 -05:00` (23 bytes). The local year is from 0 to 9999, and an offset is from
+/// -1560 to 1560 minutes. Nothing is allocated.
 #[tactic(auto, unfolding(crate::specs::Locals::local_text))]
 pub fn write_local<const N: usize>(local: &Local, out: &mut ArrayString<N>)
     requires local { IsLocal local.now }
@@ -22,8 +23,8 @@ pub fn write_local<const N: usize>(local: &Local, out: &mut ArrayString<N>)
     write_label(local.label, out);
 }
 
-/// Appends `minute`, in local minutes since 1970-01-01 00:00, as `2000-01-10 06:00`. The year is from 0
-/// to 9999.
+/// Appends the local `minute`, counted from 1970-01-01 00:00, to `out` as `2000-01-10 06:00`, 16
+/// bytes. The year is from 0 to 9999. Nothing is allocated.
 #[tactic(auto, unfolding(crate::specs::Locals::time_text))]
 pub fn write_time<const N: usize>(minute: i64, out: &mut ArrayString<N>)
     requires minute { IsWritten minute }

@@ -10,8 +10,9 @@ use jiff_core::civil::{Date, days_in_month};
 
 const FORM: &[u8] = b"0000-00-00T00:00Z";
 
-/// Returns the moment of `text`, such as `2000-01-10T00:00Z`, in minutes since 1970-01-01T00:00Z, or
-/// `None` if the text isn't in this form or isn't a minute of the years from 1 to 9999.
+/// Returns the moment that `text` writes, in minutes since 1970-01-01T00:00Z. Returns `None` if
+/// `text` isn't in the form `2000-01-10T00:00Z`, or if its date or time of day doesn't exist in the
+/// years 1 to 9999.
 ///
 /// # Examples
 /// ```

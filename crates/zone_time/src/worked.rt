@@ -11,9 +11,9 @@ ghost use Rattle.zone_time.specs.Worked.{new_york_to, hour_ahead};
 ghost use Rattle.zone_time.specs.ZoneFiles.{clock_minute, is_consistent};
 ghost use Rattle.zone_time.specs.Zones.{local_in, zone_of};
 
-/// Proves the texts of some moments, in minutes since 1970-01-01T00:00Z: the first and the last that
-/// have a text, 1970-01-01T00:00Z and the minute before it, leap days, and the end of February of a
-/// century year without a leap day.
+/// Proves the texts of some moments, in minutes since 1970-01-01T00:00Z: an ordinary one, 0 and -1,
+/// the first and the last moment with a text, leap days in the years 2000 and 4, and the minutes at
+/// the end of February 1900, which has no leap day. `negsuc n` is -(n + 1).
 pub fn worked_texts()
     ensures usual { moment_text (pos 15791040) ≡ codes "2000-01-10T00:00Z" }
     ensures zero { moment_text (pos 0) ≡ codes "1970-01-01T00:00Z" }
@@ -26,8 +26,10 @@ pub fn worked_texts()
     ensures first_leap_day { moment_text (negsuc 1033930765) ≡ codes "0004-02-29T12:34Z" }
 {}
 
-/// Proves the moments that some texts write, in minutes since 1970-01-01T00:00Z, and that other texts
-/// write none.
+/// Proves which moments some texts write, in minutes since 1970-01-01T00:00Z, among them a leap day
+/// and the first and last moment. Also proves that a text writes none if the day doesn't exist (29
+/// February in 2100 and in 2001), without a time of day, with a lower-case `z`, with month 0, hour
+/// 24 or minute 60, or in the year 0. `negsuc n` is -(n + 1).
 #[tactic(auto, unfolding(crate::specs::Moments::moment_of, crate::specs::Moments::has_form))]
 pub fn worked_readings()
     ensures usual { moment_of (codes "2000-01-10T00:00Z") ≡ Some (pos 15791040) }
@@ -44,8 +46,9 @@ pub fn worked_readings()
     ensures year_zero { moment_of (codes "0000-12-31T23:59Z") ≡ None }
 {}
 
-/// Proves which texts some local times and labels have; a label is `UTC` or an offset from universal
-/// time in minutes.
+/// Proves the texts of local times and labels; a label is `UTC` or an offset from universal time in
+/// minutes. The offsets are five hours and half an hour behind, 26 hours behind, 5:45 ahead, and 0;
+/// the earliest local time with a text is in the year 0. `negsuc n` is -(n + 1).
 #[tactic(auto, unfolding(crate::specs::Locals::local_text, crate::specs::Locals::time_text, crate::specs::Locals::label_text, crate::specs::Dates::date_text, crate::specs::Dates::clock_text, crate::specs::Dates::two_digits, crate::specs::Dates::date_of, crate::specs::Dates::date_from_year, crate::specs::Dates::date_from_month))]
 pub fn worked_locals()
     ensures universal { local_text (record { minute = pos 15791400; label = Label.Utc }) ≡ codes "2000-01-10 06:00 UTC" }
@@ -57,9 +60,11 @@ pub fn worked_locals()
     ensures first { local_text (record { minute = negsuc 1036120319; label = Label.Utc }) ≡ codes "0000-01-01 00:00 UTC" }
 {}
 
-/// Proves which minutes the clock of New York shows at some minutes, both since 1970-01-01 00:00. The
-/// zone has a table of changes up to 1999 and a rule from then on. The seconds of mean time are rounded
-/// down, a row of the table counts from its second on, and the rule from the second of the last row on.
+/// Proves the minutes that the clock of an example file for New York shows at some minutes, both
+/// counted from 1970-01-01 00:00 (`negsuc n` is -(n + 1)). The file has a table of changes up to
+/// 1999 and a rule for later times. Seconds of mean time are rounded down, a row of the table
+/// applies from its second on, and the rule begins and ends daylight saving time in 2000. The last
+/// clause is the text of a local time at a fixed offset of five hours behind.
 pub fn worked_clocks()
     ensures mean_time { clock_minute (new_york_to (pos 941954400)) (negsuc 63113759) ≡ negsuc 63114056 }
     ensures last_of_mean_time { clock_minute (new_york_to (pos 941954400)) (negsuc 45294180) ≡ negsuc 45294477 }
@@ -73,8 +78,9 @@ pub fn worked_clocks()
     ensures label { local_text (local_in (Zone.Fixed (negsuc 299)) (pos 15791400)) ≡ codes "2000-01-10 01:00 -05:00" }
 {}
 
-/// Proves which zone a file has, that files that are cut short have none, and that a rule continues a
-/// table of changes, but not one in which the last row ends daylight saving time a week too early.
+/// Proves the zone of an example file, and that the file cut short, or no bytes at all, have none.
+/// Also proves that the rule of the example file for New York gives the clock type of the last row
+/// of its table, but not if this row, the end of daylight saving time, is a week too early.
 pub fn worked_zone_files()
     ensures consistent { is_consistent (new_york_to (pos 941954400)) ≡ true }
     ensures inconsistent { is_consistent (new_york_to (pos 941349600)) ≡ false }

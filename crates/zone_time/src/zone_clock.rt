@@ -1,4 +1,4 @@
-//! The clock of a zone.
+//! The clock of a time zone.
 
 ghost use Rattle.std.specs.Prelude.{◌≡◌};
 ghost use Rattle.zone_time.specs.Locals.{IsLocal};
@@ -8,8 +8,8 @@ use crate::local::{Label, Local};
 use crate::zone::Zone;
 use std::marker::Model;
 
-/// The clock of a zone, as returned by [`Zone::clock`]. If the zone is a fixed offset, it is from -1560
-/// to 1560 minutes. In contracts the clock's value is the zone.
+/// The clock of a time zone, which shows the local time at each minute; [`Zone::clock`] makes it.
+/// In contracts its value is the zone. If this is a fixed offset, it is from -1560 to 1560 minutes.
 #[derive(Drop)]
 pub struct ZoneClock<'a> {
     zone: &'a Zone,
@@ -35,7 +35,7 @@ impl<'a> ZoneClock<'a> {
         ZoneClock { zone }
     }
 
-    /// Borrows the zone of the clock.
+    /// Returns the zone of this clock.
     pub fn zone(&self) -> &'a Zone
         ensures exact { result.now ≡ self.now }
         ensures zone { IsZone result.now }
@@ -43,9 +43,9 @@ impl<'a> ZoneClock<'a> {
         self.zone
     }
 
-    /// Returns the local time at `minute`, in minutes since 1970-01-01T00:00Z, in the years 2 to 9300
-    /// or on the day before them. Seconds are rounded down. If the label of the result is an offset, it
-    /// is the local minute less `minute`.
+    /// Returns the local time at `minute`, counted from 1970-01-01T00:00Z, in the years 2 to 9300
+    /// or on the day before 0002-01-01. Seconds are rounded down. In universal time the label is
+    /// `UTC`; in any other zone it is the offset, the minute shown less `minute`.
     pub fn local(&self, minute: i64) -> Local
         requires { InZoneYears minute }
         ensures exact { result ≡ local_in self.now minute }

@@ -13,9 +13,9 @@ use jiff_core::Timestamp;
 use jiff_tz::Tzif;
 use std::marker::Model;
 
-/// A zone file as `jiff` reads it: the seconds by which the clock is ahead of universal time, each from
-/// some second on, and the rule after the last of these. In contracts its value is the content of the
-/// file.
+/// A zone file that `jiff` has parsed: a table of the offsets from universal time, each from some
+/// second on, and an optional rule for the time after the last of them. In contracts its value is
+/// the content of the file.
 #[derive(Drop)]
 pub struct ZoneFile {
     tzif: Tzif,
@@ -39,7 +39,8 @@ impl ZoneFile {
         ZoneFile { tzif }
     }
 
-    /// Returns the local time at `minute`, since 1970-01-01T00:00Z, with seconds rounded down.
+    /// Returns the local time at `minute`, counted from 1970-01-01T00:00Z, with seconds rounded
+    /// down.
     #[tactic(auto, unfolding(crate::specs::ZoneFiles::clock_minute))]
     pub(crate) fn local(&self, minute: i64) -> Local
         requires { InZoneYears minute }
@@ -49,8 +50,8 @@ impl ZoneFile {
         local_showing(minute, minute_shown(minute, self.utc_offset(minute)))
     }
 
-    /// Returns the seconds by which the file's clock is ahead of universal time at `minute`, since
-    /// 1970-01-01T00:00Z.
+    /// Returns the seconds by which the file's clock is ahead of universal time at the start of
+    /// `minute`, counted from 1970-01-01T00:00Z.
     fn utc_offset(&self, minute: i64) -> i32
         requires { InZoneYears minute }
         ensures value { result ≡ seconds_ahead self.now (minute *ℤ pos 60) }
@@ -71,7 +72,8 @@ fn instant(minute: i64) -> Timestamp
     }
 }
 
-/// Returns the minute shown at `minute` by a clock that is `utc_offset` seconds ahead.
+/// Returns the minute that a clock `utc_offset` seconds ahead of universal time shows at `minute`,
+/// with seconds rounded down.
 fn minute_shown(minute: i64, utc_offset: i32) -> i64
     requires minute { InZoneYears minute }
     requires utc_offset { IsWithin 93599 utc_offset }
@@ -82,7 +84,7 @@ fn minute_shown(minute: i64, utc_offset: i32) -> i64
     second.div_euclid(60)
 }
 
-/// Returns the local time of a clock that shows the minute `shown` at `minute`.
+/// Returns the local time of a clock that shows the minute `shown` at `minute` of universal time.
 fn local_showing(minute: i64, shown: i64) -> Local
     requires minute { InZoneYears minute }
     requires in_range { IsWithin 1560 (shown -ℤ minute) }

@@ -11,12 +11,14 @@ use jiff_core::Error;
 use jiff_tz::Tzif;
 use std::alloc::Global;
 
-/// Returns the zone of the zone file `bytes`, with a clock that follows the file's table and the rule of
-/// its footer. A file has at most 1,048,576 bytes.
+/// Returns the zone of the zone file `bytes`, which may have any length. Its clock follows the
+/// file's table, and from the last row of the table on the rule in the file's footer, if there is
+/// one.
 ///
 /// # Errors
-/// [`ZoneFault::BadZone`] if `jiff` refuses the bytes: they aren't in the format, or the rule of the
-/// footer contradicts the last change of the table. [`ZoneFault::NoMemory`] if memory runs out.
+/// [`ZoneFault::BadZone`] if `bytes` aren't a zone file, or if the rule in the footer doesn't give
+/// the clock type (offset, daylight saving flag and abbreviation) of the table's last row.
+/// [`ZoneFault::NoMemory`] if memory runs out.
 ///
 /// # Examples
 /// ```
