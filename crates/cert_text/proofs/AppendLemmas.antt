@@ -28,7 +28,8 @@ pub heading-joined : (track : TrackName) (old new : List ℕ) → new ≡ old ++
     → new ≡ old ++ joined (track_lines_of track [])
 heading-joined track old new e = e ∙ simp append-nil
 
--- a track with one more cell
+-- appending the line of the cell at index `i` to the heading of a track and the lines of its first
+-- `i` cells makes the lines of its first `i + 1` cells
 pub cell-joined : (track : TrackName) (cells : List Cell) (i : ℕ) (default : Cell) (old now new : List ℕ) → i < length cells
     → now ≡ old ++ joined (track_lines_of track (take i cells)) → new ≡ now ++ ended (cell_line_of (get_or cells i default))
     → new ≡ old ++ joined (track_lines_of track (take (i + 1) cells))

@@ -1,4 +1,5 @@
--- Reading the bytes of a text by a part that takes all of them follows the grammar, if the part is a reader.
+-- Bytes read by a part (a reader of some lines) that reads a whole text: the result follows the
+-- grammar if the part meets `IsReaderOf`.
 use Rattle.std.proofs.Common.{◌≡◌, ℕ, suc, ◌+◌, ◌≤◌, List, [], ◌++◌, length, take, drop, Result, Ok, Err, inl, inr, refl, sym, ap, ◌∙◌, subst, append-nil, append_assoc, take-append-drop, length-append, arith}
 use Rattle.std.proofs.lemmas.Bool.{cases_order}
 use Rattle.std.proofs.lemmas.List.{length-take-le, take_at}
@@ -13,6 +14,7 @@ use Rattle.cert_text.proofs.PartLemmas.{Lines, at, Whole, Broken, IsReader}
 
 -- ---- the line of a fault
 
+-- at most one number meets `IsFaultBy` for given bytes
 pub one_fault_line : {C : Type 0} (spells : C → Lines → Type 0) (bytes : List ℕ) (m n : ℕ)
     → IsFaultBy spells bytes m → IsFaultBy spells bytes n → m ≡ n
 one_fault_line spells bytes m n hm hn =
@@ -21,18 +23,22 @@ one_fault_line spells bytes m n hm hn =
       | inr other ↦ elim other [ inl lt ↦ absurd (hm.none (hn.least m lt)) | inr gt ↦ absurd (hn.none (hm.least n gt)) ]
     ]
 
--- a part after another that has returned
+-- if a function has read `part` and then does what `next` does for its value, it does what the two
+-- parts in sequence do, unless memory runs out
 pub then_takes : {A B : Type 0} (part : Part A) (next : A → Part B) (old here new : Place) (value : A) (result : Result B CertFault)
     → part old ≡ Ok (value, here) → Takes (next value) here new result → Takes (part >>= next) old new result
 then_takes part next old here new value (Ok decoded) h k = ap (handed next) h ∙ k
 then_takes part next old here new value (Err fault) h k = λ m. ap (handed next) h ∙ k m
 
+-- if a function has read `part` and then does what `next` does for its value, it does what the two
+-- parts in sequence do
 pub then_takes_exactly : {A B : Type 0} (part : Part A) (next : A → Part B) (old here new : Place) (value : A) (result : Result B CertFault)
     → part old ≡ Ok (value, here) → TakesExactly (next value) here new result → TakesExactly (part >>= next) old new result
 then_takes_exactly part next old here new value (Ok decoded) h k = ap (handed next) h ∙ k
 then_takes_exactly part next old here new value (Err fault) h k = ap (handed next) h ∙ k
 
--- what a function returns, without the place where it stops
+-- a function that does what a part does, unless memory runs out, has the same value or fault,
+-- unless memory ran out
 pub returned_by : {C : Type 0} (part : Part C) (old new : Place) (result : Result C CertFault) → Takes part old new result
     → EqualsUnlessNoMemory is_out_of_memory (without_place (part old)) result
 returned_by part old new (Ok c) h = ap without_place h
@@ -42,7 +48,8 @@ returned_by part old new (Err (NotACertificate line)) h = ap without_place (h re
 same_Ok : {C : Type 0} (c d : C) (x : Result C CertFault) → x ≡ Ok c → x ≡ Ok d → c ≡ d
 same_Ok c d x h k = cc
 
--- a part that returns the value of each text of a grammar, of which no line has an LF
+-- `IsReaderOf spells part`: the part follows the grammar `spells` for any bytes, it returns the
+-- value that the lines of a text spell, and no line of the grammar contains an LF
 pub record IsReaderOf {C : Type 0} (spells : C → Lines → Type 0) (part : Part C) : Type 0 where
   pub reader : IsReader spells part
   pub lines_read : (c : C) (lines : Lines) → spells c lines → (left : Place) × (part (at 0 lines []) ≡ Ok (c, left))
@@ -54,7 +61,8 @@ module _ {C : Type 0} (spells : C → Lines → Type 0) (part : Part C) (reads :
       let tc = reads.lines_read c lines hc in let td = reads.lines_read d lines hd in
       same_Ok c d (without_place (part (at 0 lines []))) (ap without_place tc.1) (ap without_place td.1)
 
-  -- the lines of a text
+  -- the lines in the bytes of a text are the lines that spell its value, and no byte follows the
+  -- last LF
   text_lines : (c : C) (bytes : List ℕ) (h : IsTextBy spells c bytes) → (lines_in bytes ≡ h.0) × (last_in bytes ≡ [])
   text_lines c bytes h =
       let cut = lines_in-joined h.0 [] (reads.free c h.0 h.1) in
@@ -126,6 +134,8 @@ module _ {C : Type 0} (spells : C → Lines → Type 0) (part : Part C) (reads :
 
   -- ---- any bytes
 
+  -- the result of reading any bytes follows the grammar: the value that they are the text of, or
+  -- the first line with which no text goes on
   pub reads_bytes : (bytes : List ℕ) → ReadsBy spells bytes (read_by part bytes)
   reads_bytes bytes =
       elim (reads.reader.outcome 0 (lines_in bytes) (last_in bytes)) [
@@ -133,6 +143,7 @@ module _ {C : Type 0} (spells : C → Lines → Type 0) (part : Part C) (reads :
         | inr b ↦ subst (ReadsBy spells bytes) (sym (ap without_place b.returned)) (broken_reads bytes b)
       ]
 
+  -- reading by a part, as defined, never has the fault that memory ran out
   pub never_memory : (bytes : List ℕ) → read_by part bytes ≡ Err NoMemory → ⊥
   never_memory bytes h =
       elim (reads.reader.outcome 0 (lines_in bytes) (last_in bytes)) [
@@ -140,11 +151,11 @@ module _ {C : Type 0} (spells : C → Lines → Type 0) (part : Part C) (reads :
         | inr b ↦ let e = sym (ap without_place b.returned) ∙ h in absurd cc
       ]
 
-  -- a text reads as its value
+  -- the text of a value reads as this value
   pub text_reads : (c : C) (bytes : List ℕ) → IsTextBy spells c bytes → read_by part bytes ≡ Ok c
   text_reads c bytes text = ap without_place (text_taken c bytes text).1
 
-  -- the result of reading follows the grammar
+  -- a result that is the defined result of reading, unless memory ran out, follows the grammar
   pub reads_given : (bytes : List ℕ) (result : Result C CertFault) → EqualsUnlessNoMemory is_out_of_memory (read_by part bytes) result
       → ReadsBy spells bytes result
   reads_given bytes (Ok c) h = subst (ReadsBy spells bytes) h (reads_bytes bytes)

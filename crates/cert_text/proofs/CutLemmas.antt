@@ -1,4 +1,5 @@
--- The pieces of lines that have no LF, each with its LF, are these lines.
+-- Cutting bytes into lines: lines without an LF, each with an LF after it, are cut into the same
+-- lines.
 use Rattle.std.proofs.Common.{◌≡◌, ℕ, ◌<◌, ◌==◌, Bool, true, inl, inr, List, [], ◌∷◌, ◌++◌, length, refl, sym, ap, ◌∙◌, append_assoc, arith}
 use Rattle.std.specs.Prelude.{not}
 use Rattle.std.specs.List.{list_all, AllByRecursion, join_with_byte}
@@ -10,9 +11,11 @@ use Rattle.cert_text.specs.ByLine.{is_lf, pieces, but_last, last_of, lines_in, l
 
 -- ---- lines without LF
 
+-- the text contains no LF
 abbrev pub is_free : List ℕ → Bool
 is_free text = list_all (λ b. not (is_lf b)) text
 
+-- no line contains an LF
 abbrev pub AreFree : List (List ℕ) → Type 0
 AreFree lines = AllByRecursion (λ line. is_free line ≡ true) lines
 
@@ -41,7 +44,8 @@ pub last_of-next : (piece : List ℕ) (more : List (List ℕ)) → 0 < length mo
 last_of-next piece [] h = absurd (omega arith)
 last_of-next piece (next ∷ more) h = refl
 
--- the lines of lines that have no LF, each with its LF, are these lines and those of the bytes after them
+-- the lines in `joined lines ++ rest` are `lines`, which contain no LF, and then the lines in
+-- `rest`; the bytes after the last LF are the ones in `rest`
 pub lines_in-joined : (lines : List (List ℕ)) (rest : List ℕ) → AreFree lines
     → (lines_in (joined lines ++ rest) ≡ lines ++ lines_in rest) × (last_in (joined lines ++ rest) ≡ last_in rest)
 lines_in-joined [] rest h = (refl, refl)
@@ -77,7 +81,7 @@ rejoined [] h = absurd (omega arith)
 rejoined (p ∷ []) h = refl
 rejoined (p ∷ q ∷ ps) h = ap (λ xs. p ∷ xs) (rejoined (q ∷ ps) (omega arith))
 
--- the bytes are the lines that LF ends, and what follows them
+-- bytes are their lines, each with its LF, and then the bytes after the last LF
 pub bytes_of_lines : (bytes : List ℕ) → bytes ≡ joined (lines_in bytes) ++ last_in bytes
 bytes_of_lines bytes = bytes_of_pieces bytes (lines_in bytes) (last_in bytes) (rejoined (pieces bytes) (some_piece bytes))
 
@@ -86,7 +90,7 @@ over_is [] [] e = refl
 over_is [] (b ∷ bs) e = absurd cc
 over_is (line ∷ lines) last e = absurd cc
 
--- nothing follows exactly if there are no bytes
+-- there is neither a line nor a byte after the last LF exactly if there are no bytes
 pub is_over-bytes : (bytes : List ℕ) → is_over (lines_in bytes) (last_in bytes) ≡ (length bytes == 0)
 is_over-bytes [] = refl
 is_over-bytes (b ∷ bs) =

@@ -1,4 +1,4 @@
--- The lines of certificates have no LF.
+-- No line of a certificate contains an LF.
 use Rattle.std.proofs.Common.{◌≡◌, ℕ, suc, ◌+◌, ◌/◌, ◌%◌, ◌≤◌, ◌<◌, ◌^◌, true, List, [], ◌∷◌, ◌++◌, codes, map, get_or, Option, Some, None, ℤ, pos, negsuc, ◌⊎◌, inl, inr, refl, arith}
 use Rattle.std.specs.Prelude.{not, unsigned_abs, decimal, All, IfSome}
 use Rattle.std.specs.Fmt.{signed_decimal}

@@ -1,4 +1,4 @@
--- The lines of a certificate spell it, and no others do.
+-- The lines of a certificate spell it, and no other lines do.
 use Rattle.std.proofs.Common.{◌≡◌, ℕ, List, [], ◌∷◌, map, Option, Some, None, ℤ, ◌⊎◌, inl, inr, refl, ap, ◌∙◌}
 use Rattle.std.specs.Prelude.{is_some, All, IfSome}
 use Rattle.std.specs.List.{AllByRecursion, AllZip}

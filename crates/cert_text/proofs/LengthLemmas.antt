@@ -1,4 +1,4 @@
--- The length of a certificate's text.
+-- The length in bytes of a certificate's text and of its lines.
 use Rattle.std.proofs.Common.{◌≡◌, ℕ, ◌+◌, ◌*◌, ◌<◌, ◌≤◌, List, [], ◌∷◌, ◌++◌, codes, map, length, get_or, Option, Some, None, ℤ, pos, ◌⊎◌, inl, inr, refl, sym, ap, ◌∙◌, append_assoc, length-append, lit<, arith}
 use Rattle.std.specs.Prelude.{unsigned_abs, unwrap_or, decimal, All, IfSome}
 use Rattle.std.specs.Fmt.{signed_decimal}
@@ -97,10 +97,11 @@ cell_short (cells.Turn kind level) h = omega (
 
 -- ---- lengths of texts
 
+-- one more line before others adds its length and 1 for its LF
 pub joined-cons : (line : List ℕ) (lines : List (List ℕ)) → length (joined (line ∷ lines)) ≡ length line + 1 + length (joined lines)
 joined-cons line lines = omega (arith, length-append (ended line) (joined lines), length-ended line)
 
--- a cell whose line has at most the number of bytes
+-- `IsShort most cell`: the cell's line with its LF has at most `most` bytes
 abbrev IsShort : ℕ → Cell → Type 0
 IsShort most c = length (ended (cell_line_of c)) ≤ most
 
@@ -144,7 +145,8 @@ pub last_short : length (ended last_line) ≡ 5
 unfolding last_line
 last_short = refl
 
--- the length of all tracks, if no cell's line is longer
+-- if the line of each cell has at most `most` bytes with its LF, the text has at most 536 bytes and
+-- `most` for each cell
 tracks_short : (most : ℕ) (c : Certificate) → IsCertificate c → All (IsShort most) c.tracks.turn
     → IfSome c.tracks.slack (All (IsShort most)) → IfSome c.tracks.mark (All (IsShort most))
     → length (certificate_text c) ≤ 536 + most * cell_count c

@@ -1,4 +1,5 @@
--- The meaning that is read of a line is what the line spells, and no other line spells it.
+-- What is read from a line of a certificate is what the line spells, and any line that spells it
+-- reads so.
 use Rattle.std.proofs.Common.{◌≡◌, ◌≢◌, ℕ, zero, suc, ◌<◌, ◌≤◌, Bool, true, false, cond, List, [], ◌∷◌, ◌++◌, codes, length, get_or, take, drop, Option, Some, None, ℤ, pos, negsuc, inl, inr, refl, sym, ap, ◌∙◌, subst, take-append-drop, lit<, lit≤, arith}
 use Rattle.std.specs.Prelude.{unsigned_abs, decimal, nat_lt, nat_le, ◌&&◌, option_and_then}
 use Rattle.std.specs.Fmt.{signed_decimal}
@@ -33,6 +34,7 @@ use Rattle.cert_text.proofs.NumberLemmas.{size_is, size_of-decimal, number_is, p
 
 -- ---- words
 
+-- if a line has a rest after the prefix `word`, the line is `word` and then this rest
 pub after_is : (word line rest : List ℕ) → after word line ≡ Some rest → line ≡ word ++ rest
 unfolding after
 after_is word line rest e =
@@ -40,12 +42,13 @@ after_is word line rest e =
     sym (take-append-drop (length word) line) ∙ ap (λ w. w ++ drop (length word) line) (same_bytes _ _ got.0)
     ∙ ap (λ r. word ++ r) got.1
 
+-- the rest of `word ++ rest` after the prefix `word` is `rest`
 pub after-append : (word rest : List ℕ) → after word (word ++ rest) ≡ Some rest
 unfolding after
 after-append word rest =
     rw (take_at word rest (length word) refl, bytes_eq-same word, drop_at word rest (length word) refl) refl
 
--- a text is one of two words, or neither
+-- a choice by two words: if it has a value, the line is one of the two words
 one_of_two : {A P : Type 0} (line first second : List ℕ) (x y z : A)
     → cond (bytes_eq line first) (Some x) (cond (bytes_eq line second) (Some y) None) ≡ Some z
     → (line ≡ first → x ≡ z → P) → (line ≡ second → y ≡ z → P) → P
@@ -116,6 +119,7 @@ named_is bytes name e =
     } in
     (subst IsStationName got.1 is, got.1)
 
+-- a line that reads as the line of a station spells the name that was read
 pub station_is : (line name : List ℕ) → station_of line ≡ Some name → SpellsStation name line
 unfolding station_of
 station_is line name e =
@@ -123,6 +127,7 @@ station_is line name e =
     let got = named_is bytes name is in
     (got.0, rw (← got.1) (after_is (codes "station ") line bytes found)))
 
+-- a line that spells a station's name reads as the line of this station
 pub station_read : (name line : List ℕ) → SpellsStation name line → station_of line ≡ Some name
 unfolding station_of
 station_read name line h =
@@ -130,7 +135,7 @@ station_read name line h =
     list_all-from_AllPass is_name_byte name (λ k d lt. name_byte-from _ (h.0.printed k d lt)) in
     rw (h.1, after-append (codes "station ") name) (named_yes name h.0.some h.0.short printed h.0.text)
 
--- a name of printed ASCII
+-- the byte is a printable ASCII character or a space: 32 to 126
 abbrev pub is_plain : ℕ → Bool
 is_plain b = nat_le 32 b && nat_lt b 127
 
@@ -142,6 +147,7 @@ plain_is_ascii [] h i = lit< tt
 plain_is_ascii (b ∷ bs) h zero = omega (arith, (plain_is b (and_parts _ _ h).0).1)
 plain_is_ascii (b ∷ bs) h (suc i) = plain_is_ascii bs (and_parts _ _ h).1 i
 
+-- 1 to 400 printable ASCII characters or spaces can be a station's name
 pub plain_name : (name : List ℕ) → 1 ≤ length name → length name ≤ 400 → list_all is_plain name ≡ true → IsStationName name
 plain_name name some few plain = record {
   text = IsUtf8-from_ascii name (plain_is_ascii name plain);
@@ -158,6 +164,7 @@ x_is_name = plain_name (codes "x") (lit≤ tt) (lit≤ tt) refl
 pub moment_zero : IsMoment (pos 0)
 moment_zero = record { first = omega (arith, ints); last = omega (arith, ints) }
 
+-- a line that reads as `word` and a moment spells this moment
 pub moment_is : (word line : List ℕ) (m : ℤ) → moment_after word line ≡ Some m → SpellsMoment word m line
 unfolding moment_after
 moment_is word line m e =
@@ -165,6 +172,7 @@ moment_is word line m e =
     let got = moment_text-moment_of text m is in
     (got.0, rw got.1 (after_is word line text found)))
 
+-- a line that spells `word` and a moment reads as this moment
 pub moment_read : (word : List ℕ) (m : ℤ) (line : List ℕ) → SpellsMoment word m line → moment_after word line ≡ Some m
 unfolding moment_after
 moment_read word m line h = rw (h.1, after-append word (moment_text m)) (moment_of-moment_text m h.0)

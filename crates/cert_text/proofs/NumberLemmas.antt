@@ -20,12 +20,15 @@ use Rattle.cert_text.proofs.OptionLemmas.{cond_none, option_map_some}
 digit_is : (b : ℕ) → is_ascii_digit b ≡ true → (48 ≤ b) × (b ≤ 57)
 digit_is b h = grind (arith, nat_tests)
 
--- the bound of the library's lemmas on long numbers
+-- a number below 10^`most`, with `most` at most 38, is below 10^38, the bound of the library's
+-- lemmas on decimal text
 pub within : (most n : ℕ) → most ≤ 38 → n < 10 ^ most → n < 10 ^ 38
 within most n few h = omega (arith, pow-le-pow_right {n = 10} (lit< tt) few)
 
 -- ---- the length of a number
 
+-- a whole number below 10^`most` in size has at most `most + 1` bytes in decimal, including a minus
+-- sign
 pub length-number : (most : ℕ) (z : ℤ) → 0 < most → most ≤ 38 → unsigned_abs z < 10 ^ most → length (signed_decimal z) ≤ most + 1
 length-number most (pos n) some few h = omega (arith, length-decimal-le_wide most n some h (omega (arith, within most n few h)))
 length-number most (negsuc n) some few h =
@@ -48,11 +51,12 @@ decimal_some n h = (decimal_is_IsNumeral_wide n (omega (arith, h))).0.0
 value-decimal : (n : ℕ) → n < 10 ^ 38 → digits_value 10 (decimal n) ≡ n
 value-decimal n h = (decimal_is_IsNumeral_wide n (omega (arith, h))).1
 
--- the first byte of a number is a digit
+-- the first byte of a number below 10^38 in decimal is a digit, 48 to 57
 pub first_digit : (n : ℕ) → n < 10 ^ 38 → (48 ≤ get_or (decimal n) 0 0) × (get_or (decimal n) 0 0 ≤ 57)
 first_digit n h = digit_is _ (AllPass-from_list_all is_ascii_digit (decimal n) (digits_of_decimal n h) 0 0 (decimal_some n h))
 
--- the first digit of a number isn't 0, unless the number is
+-- `StartsAbove n ds`: the digits `ds` of `n` are at least one, and the first isn't 0 unless `n` is
+-- 0
 record StartsAbove (n : ℕ) (ds : List ℕ) : Type 0 where
   some : 0 < length ds
   above : 0 < n → 48 < get_or ds 0 0
@@ -80,7 +84,8 @@ value_grows : (n : ℕ) (ds : List ℕ) → n ≤ digits_value_after 10 n ds
 value_grows n [] = omega arith
 value_grows n (c ∷ cs) = omega (arith, value_grows (n * 10 + digit_value c) cs)
 
--- the digits of a number that isn't 0, followed by more digits
+-- the decimal text of a number that isn't 0 and has further digits `ds` after it is the text of the
+-- number and then `ds`
 decimal-after : (n : ℕ) (ds : List ℕ) → 0 < n → AllDigits 10 ds → digits_value_after 10 n ds < 10 ^ 38
     → decimal (digits_value_after 10 n ds) ≡ decimal n ++ ds
 decimal-after n [] some d small = sym (append-nil (decimal n))
@@ -93,7 +98,7 @@ decimal-after n (c ∷ cs) some d small =
     decimal_step_wide m (omega arith) (omega (arith, value_grows m cs, small)) ∙ rw (prefix, end) refl in
     decimal-after m cs (omega arith) d.1 small ∙ ap (λ x. x ++ cs) one ∙ append_assoc (decimal n) (c ∷ []) cs
 
--- digits without a leading zero are the decimal text of their value
+-- digits without a leading zero are the decimal text of the number that they write
 decimal-value : (ds : List ℕ) → AllDigits 10 ds → 0 < length ds → (get_or ds 0 0 ≡ 48 → length ds ≡ 1)
     → digits_value 10 ds < 10 ^ 38 → decimal (digits_value 10 ds) ≡ ds
 decimal-value [] d some lead small = absurd (omega arith)
@@ -109,7 +114,8 @@ decimal-value (c ∷ e ∷ cs) d some lead small =
     decimal_digit (0 * 10 + digit_value c) (omega (arith, d.0)) ∙ ap (λ x. x ∷ []) is in
     decimal-after (0 * 10 + digit_value c) (e ∷ cs) (omega (arith, byte, no, digit_from_value c d.0)) d.1 small ∙ ap (λ x. x ++ e ∷ cs) one
 
--- a numeral: the text of a number
+-- `IsNumeral most text`: the text is 1 to `most` decimal digits, without a leading zero before
+-- further digits
 record IsNumeral (most : ℕ) (text : List ℕ) : Type 0 where
   some : 0 < length text
   few : length text ≤ most
@@ -157,6 +163,8 @@ size_of-numeral : (most : ℕ) (text : List ℕ) → IsNumeral most text → siz
 unfolding size_of digits_of
 size_of-numeral most text h = rw (unpadded_if most text h, le-leb 1 _ h.some, le-leb _ _ h.few, h.digits) refl
 
+-- a text that reads as `n` with at most `most` digits is the decimal text of `n`, which is below
+-- 10^`most`
 pub size_is : (most : ℕ) (text : List ℕ) (n : ℕ) → most ≤ 38 → size_of most text ≡ Some n → (n < 10 ^ most) × (decimal n ≡ text)
 size_is most text n few e =
     let got = numeral_is most text n e in
@@ -184,6 +192,7 @@ decimal_numeral most (suc n) some few h =
       no_zero = λ e. absurd (omega (arith, first, e));
     }
 
+-- the decimal text of `n`, below 10^`most`, reads as `n`
 pub size_of-decimal : (most n : ℕ) → 0 < most → most ≤ 38 → n < 10 ^ most → size_of most (decimal n) ≡ Some n
 size_of-decimal most n some few h =
     size_of-numeral most (decimal n) (decimal_numeral most n some few h) ∙ ap Some (value-decimal n (within most n few h))
@@ -207,6 +216,7 @@ minus_prefix : (digits : List ℕ) → after (codes "-") (45 ∷ digits) ≡ Som
 unfolding after
 minus_prefix digits = refl
 
+-- the signed decimal text of `z`, below 10^`most` in size, reads as `z`
 pub parse_number-signed : (most : ℕ) (z : ℤ) → 0 < most → most ≤ 38 → unsigned_abs z < 10 ^ most → parse_number most (signed_decimal z) ≡ Some z
 unfolding parse_number
 parse_number-signed most (pos n) some few h =
@@ -235,6 +245,8 @@ number_from_is most text z (Some digits) few prefix e =
     let sign = negative_is n z is in
     (omega (arith, sign.0, got.0), sign.1 ∙ ap (λ ds. 45 ∷ ds) got.1 ∙ sym (minus_then text digits prefix)))
 
+-- a text that reads as `z` with at most `most` digits is the signed decimal text of `z`, which is
+-- below 10^`most` in size
 pub number_is : (most : ℕ) (text : List ℕ) (z : ℤ) → most ≤ 38 → parse_number most text ≡ Some z
     → (unsigned_abs z < 10 ^ most) × (signed_decimal z ≡ text)
 unfolding parse_number

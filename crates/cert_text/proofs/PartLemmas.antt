@@ -1,5 +1,5 @@
--- Parts of a grammar, and what is known of each: it returns what the lines spell, or stops at the first line
--- with which nothing that is spelled goes on.
+-- Parts (readers of some lines) for a grammar: from any position each returns the value that the
+-- lines spell, or stops at the first line with which no lines of the grammar go on.
 use Rattle.std.proofs.Common.{◌≡◌, ℕ, suc, ◌+◌, ◌<◌, ◌≤◌, true, false, List, [], ◌∷◌, ◌++◌, length, take, append-nil, append_assoc, Option, Some, None, Result, Ok, Err, ◌⊎◌, inl, inr, refl, sym, ap, ◌∙◌, subst, arith}
 use Rattle.std.specs.List.{AllZip}
 use Rattle.std.specs.Option.{option_map}
@@ -14,7 +14,8 @@ use Rattle.cert_text.specs.ByLine.{Place, Part, handed, ◌>>=◌, returned, lin
 abbrev pub Lines : Type 0
 Lines = List (List ℕ)
 
--- a place by its parts
+-- `at lines_read lines last`: the position after `lines_read` lines, with these unread lines and
+-- these bytes after the last LF
 abbrev pub at : ℕ → Lines → List ℕ → Place
 at lines_read lines last = record { lines_read = lines_read; lines = lines; last = last }
 
@@ -37,7 +38,8 @@ word_read word = rw (bytes_eq-same word) refl
 
 -- ---- outcomes
 
--- the part returns a value, which the lines spell, and nothing follows them
+-- `Whole spells part n lines last`: from the position after `n` lines the part returns a value, the
+-- unread `lines` spell it, and no byte follows the last LF
 pub record Whole {C : Type 0} (spells : C → Lines → Type 0) (part : Part C) (n : ℕ) (lines : Lines) (last : List ℕ) : Type 0 where
   pub decoded : C
   pub left : Place
@@ -45,7 +47,9 @@ pub record Whole {C : Type 0} (spells : C → Lines → Type 0) (part : Part C) 
   pub spelled : spells decoded lines
   pub over : last ≡ []
 
--- the part stops after a number of lines, which begin lines that spell a value; with the next line they don't
+-- `Broken spells part n lines last`: from the position after `n` lines the part stops after `count`
+-- of the unread `lines`, with the fault at the next one; these begin the lines of some value, and
+-- with the next line the part returns no value
 pub record Broken {C : Type 0} (spells : C → Lines → Type 0) (part : Part C) (n : ℕ) (lines : Lines) (last : List ℕ) : Type 0 where
   pub count : ℕ
   pub few : count ≤ length lines
@@ -59,7 +63,8 @@ pub record Broken {C : Type 0} (spells : C → Lines → Type 0) (part : Part C)
 abbrev pub Outcome : {C : Type 0} → (C → Lines → Type 0) → Part C → ℕ → Lines → List ℕ → Type 0
 Outcome spells part n lines last = Whole spells part n lines last ⊎ Broken spells part n lines last
 
--- a part that takes a whole text: some lines spell a value, and each text has an outcome
+-- `IsReader spells part`: from any position the part returns the value that the unread lines spell,
+-- or stops with the fault at the first line that no text has there; and some lines spell a value
 pub record IsReader {C : Type 0} (spells : C → Lines → Type 0) (part : Part C) : Type 0 where
   pub decoded : C
   pub lines : Lines
@@ -67,7 +72,8 @@ pub record IsReader {C : Type 0} (spells : C → Lines → Type 0) (part : Part 
   pub outcome : (n : ℕ) (lines : Lines) (last : List ℕ) → Outcome spells part n lines last
 
 module _ {C : Type 0} (spells : C → Lines → Type 0) (part : Part C) where
-  -- the outcome after one good line
+  -- if the part goes on with `next` after a line, an outcome of `next` after this line is one of
+  -- the part
   pub moved : (next : Part C) (n : ℕ) (line : List ℕ) (lines : Lines) (last : List ℕ)
       → ((more : Lines) (rest : List ℕ) → part (at n (line ∷ more) rest) ≡ next (at (n + 1) more rest))
       → Outcome (λ c more. spells c (line ∷ more)) next (n + 1) lines last → Outcome spells part n (line ∷ lines) last
@@ -88,7 +94,7 @@ module _ {C : Type 0} (spells : C → Lines → Type 0) (part : Part C) where
     stops = λ other c left lt k. b.stops other c left (omega (arith, lt)) (sym (step (take (suc b.count) lines ++ other) []) ∙ k);
   })
 
-  -- the outcome at a bad line
+  -- the outcome if the part refuses the next line, and some lines spell a value
   pub stopped : (n : ℕ) (line : List ℕ) (lines : Lines) (last : List ℕ) (decoded : C) (more : Lines) → spells decoded more
       → ((more : Lines) (rest : List ℕ) → part (at n (line ∷ more) rest) ≡ refused (n + 1)) → Outcome spells part n (line ∷ lines) last
   stopped n line lines last decoded more spelled step = inr (record {
@@ -101,7 +107,7 @@ module _ {C : Type 0} (spells : C → Lines → Type 0) (part : Part C) where
     stops = λ other c left lt k. let no : refused (n + 1) ≡ Ok (c, left) = sym (step other []) ∙ k in absurd cc;
   })
 
-  -- the outcome where a line is missing, or bytes follow
+  -- the outcome if no line is left and the part refuses, and some lines spell a value
   pub ended : (n : ℕ) (last : List ℕ) (decoded : C) (more : Lines) → spells decoded more
       → part (at n [] last) ≡ refused (n + 1) → Outcome spells part n [] last
   ended n last decoded more spelled step = inr (record {
@@ -115,7 +121,7 @@ module _ {C : Type 0} (spells : C → Lines → Type 0) (part : Part C) where
   })
 
 module _ {C : Type 0} (spells : C → Lines → Type 0) (part other : Part C) where
-  -- the outcome of another part that does the same at this line
+  -- if two parts do the same at this line, an outcome of one is an outcome of the other
   pub like_at : (n : ℕ) (line : List ℕ) (lines : Lines) (last : List ℕ)
       → ((more : Lines) (rest : List ℕ) → part (at n (line ∷ more) rest) ≡ other (at n (line ∷ more) rest))
       → Outcome spells other n (line ∷ lines) last → Outcome spells part n (line ∷ lines) last
@@ -136,7 +142,7 @@ module _ {C : Type 0} (spells : C → Lines → Type 0) (part other : Part C) wh
     stops = λ more c left lt k. b.stops more c left lt (sym (same (take b.count lines ++ more) []) ∙ k);
   })
 
-  -- the same where no line follows
+  -- if two parts do the same at the end of the lines, an outcome of one is an outcome of the other
   pub like_ended : (n : ℕ) (last : List ℕ) → part (at n [] last) ≡ other (at n [] last)
       → Outcome spells other n [] last → Outcome spells part n [] last
   like_ended n last same (inl w) =
@@ -153,7 +159,8 @@ module _ {C : Type 0} (spells : C → Lines → Type 0) (part other : Part C) wh
 
 -- ---- lines
 
--- a part that begins with a line of a meaning
+-- `StartsWith part item_of next`: the part reads one line and goes on with `next` for the value
+-- that `item_of` has for this line; it refuses a missing line and a line without a value
 pub record StartsWith {A C : Type 0} (part : Part C) (item_of : List ℕ → Option A) (next : A → Part C) : Type 0 where
   pub missing : (n : ℕ) (last : List ℕ) → part (at n [] last) ≡ refused (n + 1)
   pub good : (n : ℕ) (line : List ℕ) (value : A) (more : Lines) (last : List ℕ) → item_of line ≡ Some value
@@ -176,7 +183,8 @@ then_starts part item_of next last starts = record {
   bad = λ n line more rest is. ap (handed last) (starts.bad n line more rest is);
 }
 
--- a part that begins with a line is a reader, if what follows each good line is, and there is a good line
+-- a part that begins with one line is a reader of the grammar if what follows each accepted line
+-- is, and there is such a line
 pub line_reader : {A C : Type 0} (spells : C → Lines → Type 0) (part : Part C) (item_of : List ℕ → Option A) (next : A → Part C)
     → StartsWith part item_of next → (line : List ℕ) (value : A) → item_of line ≡ Some value
     → ((line : List ℕ) (value : A) → item_of line ≡ Some value → IsReader (λ c more. spells c (line ∷ more)) (next value))
@@ -200,7 +208,7 @@ line_reader {A} {C} spells part item_of next starts line value is readers =
 
 -- ---- items
 
--- the lines mean the items
+-- `Mean item_of items lines`: `item_of` has these items as its values for the lines, one each
 abbrev pub Mean : {A : Type 0} → (List ℕ → Option A) → List A → Lines → Type 0
 Mean item_of items lines = AllZip (λ item line. item_of line ≡ Some item) items lines
 
@@ -226,7 +234,7 @@ items_outcome {A} {C} item_of (line ∷ lines) spells next readers n last =
           ((readers [] [] tt).outcome n (line ∷ lines) last)
     ] refl
 
--- a part that begins with items is a reader, if what follows any items is
+-- a part that begins with a list of items is a reader of the grammar if what follows each list is
 pub items_reader : {A C : Type 0} (spells : C → Lines → Type 0) (item_of : List ℕ → Option A) (next : List A → Part C)
     → ((items : List A) (lines : Lines) → Mean item_of items lines → IsReader (λ c more. spells c (lines ++ more)) (next items))
     → IsReader spells (items_of item_of >>= next)
@@ -239,12 +247,13 @@ items_reader spells item_of next readers =
       outcome = λ n lines last. items_outcome item_of lines spells next readers n last;
     }
 
--- a line that is no item, or none
+-- `IsPast item_of lines`: there is no further line, or the first one isn't an item
 abbrev pub IsPast : {A : Type 0} → (List ℕ → Option A) → Lines → Type 0
 IsPast item_of [] = Unit {0}
 IsPast item_of (line ∷ lines) = item_of line ≡ None
 
--- the items of all lines up to one that is none
+-- reading items from lines that are all items, followed by a line that isn't one or by none,
+-- returns these items
 pub items_read : {A : Type 0} (item_of : List ℕ → Option A) (items : List A) (lines rest : Lines) (n : ℕ) (last : List ℕ)
     → Mean item_of items lines → IsPast item_of rest
     → (m : ℕ) × (items_at item_of n (lines ++ rest) last ≡ (items, at m rest last))
@@ -255,7 +264,7 @@ items_read item_of (item ∷ items) [] rest n last all past = absurd all
 items_read item_of (item ∷ items) (line ∷ lines) rest n last all past =
     let more = items_read item_of items lines rest (n + 1) last all.1 past in (more.0, rw (all.0, more.1) refl)
 
--- one item and the items after it
+-- if the next line is an item, the items read are this item and the ones after it
 pub items_next : {A : Type 0} (item_of : List ℕ → Option A) (here after : Place) (item : A) → first_item item_of here ≡ Some (item, after)
     → (items_at item_of here.lines_read here.lines here.last
     ≡ (item ∷ (items_at item_of after.lines_read after.lines after.last).0, (items_at item_of after.lines_read after.lines after.last).1))
@@ -272,7 +281,7 @@ items_next {A} item_of here after item = next here.lines_read here.lines here.la
       ≡ (p.0 ∷ (items_at item_of p.1.lines_read p.1.lines p.1.last).0, (items_at item_of p.1.lines_read p.1.lines p.1.last).1))
       × (length p.1.lines < length (line ∷ lines))) is (rw found refl, omega arith))
 
--- no item
+-- if the next line isn't an item, no items are read
 pub items_none : {A : Type 0} (item_of : List ℕ → Option A) (here : Place) → first_item item_of here ≡ None
     → items_at item_of here.lines_read here.lines here.last ≡ ([], here)
 items_none {A} item_of here = none here.lines_read here.lines here.last where
@@ -287,7 +296,8 @@ items_none {A} item_of here = none here.lines_read here.lines here.last where
         | None ↦ λ is none. rw is refl
       ] refl e
 
--- all items, of which some are gathered
+-- if `all` is the items gathered so far and the ones still to be read, this stays so after one more
+-- item is read
 pub items_gathered : {A : Type 0} (item_of : List ℕ → Option A) (here after : Place) (item : A) (items more : List A) (all : List A × Place)
     → first_item item_of here ≡ Some (item, after)
     → all ≡ (items ++ (items_at item_of here.lines_read here.lines here.last).0, (items_at item_of here.lines_read here.lines here.last).1)
@@ -311,7 +321,8 @@ items_finished {A} item_of here left items all none same so_far =
 
 -- ---- a part after a heading
 
--- a part that may be there begins with its heading
+-- a part that may be absent, recognised by its heading, is a reader of the grammar with what
+-- follows it, if the parts with and without it are
 pub choice_reader : {A C : Type 0} (spells : C → Lines → Type 0) (heading : List ℕ) (part rest : Part A) (next : Option A → Part C)
     → StartsWith part (is_word heading) (λ value. rest) → IsReader spells (next None)
     → ((line : List ℕ) → line ≡ heading
@@ -335,7 +346,8 @@ choice_reader {A} {C} spells heading part rest next starts none some =
 
 -- ---- the end
 
--- the end of the text, if nothing spells what was read
+-- a part that only checks for the end of the text is a reader of a grammar in which the empty list
+-- of lines spells the value
 pub end_reader : {C : Type 0} (spells : C → Lines → Type 0) (value : C) → spells value []
     → IsReader spells (end_of_text >>= λ end. returned value)
 end_reader {C} spells value spelled = record { decoded = value; lines = []; spelled = spelled; outcome = outcome } where
@@ -347,7 +359,8 @@ end_reader {C} spells value spelled = record { decoded = value; lines = []; spel
 
 -- ---- another value
 
--- a reader whose value is put into another
+-- a reader of one grammar, with its value put into a larger value, is a reader of the grammar of
+-- the larger value
 pub mapped_reader : {A C : Type 0} (spells : A → Lines → Type 0) (says : C → Lines → Type 0) (part : Part A) (f : A → C)
     → ((value : A) (lines : Lines) → spells value lines → says (f value) lines) → IsReader spells part
     → IsReader says (part >>= λ value. returned (f value))

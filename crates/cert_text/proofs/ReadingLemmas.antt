@@ -1,4 +1,5 @@
--- Reading bytes returns the certificate whose text they are, or the line of the first fault.
+-- Reading bytes returns the certificate that they are the text of, or the first line with which no
+-- certificate goes on.
 use Rattle.std.proofs.Common.{◌≡◌, ℕ, ◌+◌, true, false, List, [], ◌∷◌, ◌++◌, codes, Option, Some, None, ℤ, pos, Result, Ok, Err, inl, refl, sym, ap, ◌∙◌, subst}
 use Rattle.std.specs.Prelude.{is_some, IfOk}
 use Rattle.curve_law.specs.declared.cell.Cell.{Cell}
@@ -24,14 +25,16 @@ use Rattle.cert_text.proofs.LineLemmas.{x_is_name, moment_zero, version_is, vers
 
 -- ---- parts that begin with a line
 
--- a line, and what follows it
+-- a part that reads one line and goes on with `next` is a reader of the grammar if `next` is one
+-- for each accepted line, and there is such a line
 pub then_reader : {A C : Type 0} (spells : C → Lines → Type 0) (item_of : List ℕ → Option A) (next : A → Part C) (line : List ℕ)
     (value : A) → item_of line ≡ Some value
     → ((line : List ℕ) (value : A) → item_of line ≡ Some value → IsReader (λ c more. spells c (line ∷ more)) (next value))
     → IsReader spells (line_of item_of >>= next)
 then_reader spells item_of next = line_reader spells (line_of item_of >>= next) item_of next (line_starts item_of next)
 
--- a line of a moment, and what follows it
+-- a part that reads a line of `word` and a moment and goes on with `next` is a reader of the
+-- grammar if `next` is one after each such line
 pub moment_reader : {C : Type 0} (spells : C → Lines → Type 0) (word : List ℕ) (next : ℤ → Part C)
     → ((line : List ℕ) (m : ℤ) → moment_after word line ≡ Some m → IsReader (λ c more. spells c (line ∷ more)) (next m))
     → IsReader spells (line_of (moment_after word) >>= next)
@@ -39,14 +42,16 @@ moment_reader spells word next =
     then_reader spells (moment_after word) next (word ++ moment_text (pos 0)) (pos 0)
     (moment_read word (pos 0) (word ++ moment_text (pos 0)) (moment_zero, refl))
 
--- the line of a station, and what follows it
+-- a part that reads the line of a station and goes on with `next` is a reader of the grammar if
+-- `next` is one after each such line
 pub station_reader : {C : Type 0} (spells : C → Lines → Type 0) (next : List ℕ → Part C)
     → ((line name : List ℕ) → station_of line ≡ Some name → IsReader (λ c more. spells c (line ∷ more)) (next name))
     → IsReader spells (line_of station_of >>= next)
 station_reader spells next =
     then_reader spells station_of next (codes "station x") (codes "x") (station_read (codes "x") (codes "station x") (x_is_name, refl))
 
--- the last line, after a value
+-- `last_tail value`: a part (a reader of some lines) that reads the line `done`, checks that no
+-- byte follows, and has this value
 abbrev pub last_tail : {C : Type 0} → C → Part C
 last_tail value = last_part >>= λ last. returned value
 
@@ -265,7 +270,8 @@ certificate_taken c (v ∷ s ∷ b ∷ e ∷ m ∷ lines) h =
       ) refl,
     )
 
--- the certificate of its parts
+-- if each line of a certificate reads as its value, one position after the other, the whole reads
+-- as the certificate with these values
 pub certificate_by : (old p q r s t new : Place) (version : ℕ) (station name : List ℕ) (begin end : ℤ) (mark : Option ℤ) (tracks : Tracks)
     → line_of version_of old ≡ Ok (version, p) → line_of station_of p ≡ Ok (name, q)
     → line_of (moment_after (codes "begin ")) q ≡ Ok (begin, r) → line_of (moment_after (codes "end ")) r ≡ Ok (end, s)

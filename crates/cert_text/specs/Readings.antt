@@ -1,4 +1,5 @@
--- The certificate of a text, read part by part; it is proved to follow the grammar (this project).
+-- The certificate of events that bytes are the text of, read line by line with parts (readers of
+-- some lines); it is proved to follow the grammar (this project).
 use Rattle.std.specs.Prelude.{ℕ, ℤ, List, Option, Result, is_some, codes}
 use Rattle.curve_law.specs.declared.cell.Cell.{Cell}
 use Rattle.curve_law.specs.declared.tracks.Tracks.{Tracks}
@@ -11,19 +12,23 @@ pub use Rattle.cert_text.specs.ByLine.{is_out_of_memory}
 use Rattle.cert_text.specs.ByLine.{Part, ◌>>=◌, returned, line_of, is_word, items_of, part_if, part_after, end_of_text, read_by}
 use Rattle.cert_text.specs.Workings.LineReading.{version_of, station_of, moment_after, mark_of, cell_of}
 
--- the part of a track: its heading, and a line for each cell
+-- `track_part track`: a part (a reader of some lines) for a track: it reads the heading and as many
+-- cells of this track as follow, one on each line
 abbrev pub track_part : TrackName → Part (List Cell)
 track_part track = do
   heading ← line_of (is_word (heading_of track))
   items_of (cell_of track)
 
--- the last line, and nothing after it
+-- a part (a reader of some lines) for the end of a certificate: it reads the line `done`, and no
+-- byte may follow
 abbrev pub last_part : Part (Unit {0})
 last_part = do
   last ← line_of (is_word last_line)
   end_of_text
 
--- the part of all tracks, with the mark's track exactly if there is a mark, and the last line
+-- `tracks_part mark`: a part (a reader of some lines) for all that follows the first five lines:
+-- the tracks of turns and of slacks, of which the second may be absent, the track of the mark's
+-- crossings exactly if `mark` isn't None, and the last line
 abbrev pub tracks_part : Option ℤ → Part Tracks
 tracks_part mark = do
   turn ← track_part Turn
@@ -32,7 +37,7 @@ tracks_part mark = do
   last ← last_part
   returned (record { turn = turn; slack = slack; mark = crossings })
 
--- the part of a whole certificate
+-- a part (a reader of some lines) for a whole certificate, up to the end of the text
 abbrev pub certificate_part : Part Certificate
 certificate_part = do
   version ← line_of version_of
@@ -43,6 +48,7 @@ certificate_part = do
   tracks ← tracks_part mark
   returned (record { version = version; station = station; begin = begin; end = end; mark = mark; tracks = tracks })
 
--- the certificate that the bytes are the text of, or the line of the fault
+-- `certificate_of bytes`: the certificate that `bytes` are the text of, or else the number, counted
+-- from 1, of the first line with which no certificate goes on
 unfoldable pub certificate_of : List ℕ → Result Certificate CertFault
 certificate_of bytes = read_by certificate_part bytes

@@ -1,5 +1,5 @@
--- The grammar of certificates: the lines that spell a certificate, and the line at which bytes stop being
--- one (this project).
+-- The grammar of certificates of events: which lines spell a certificate, and at which line bytes
+-- stop following the grammar (this project). A line is without its LF.
 use Rattle.std.specs.Prelude.{◌≡◌, ℕ, ◌≤◌, ℤ, ◌⊎◌, List, [], ◌∷◌, ◌++◌, Option, Some, None, Result, codes, decimal}
 use Rattle.std.specs.List.{AllZip}
 use Rattle.std.specs.Fmt.{signed_decimal}
@@ -18,48 +18,58 @@ use Rattle.cert_text.specs.Texts.{IsTextBy, IsFaultBy, ReadsBy}
 
 -- ---- the lines of a certificate
 
--- the first line of a certificate spells its version
+-- `SpellsVersion version line`: `line` is the first line of a certificate of this version, 1 or 2
 abbrev pub SpellsVersion : ℕ → List ℕ → Type 0
 SpellsVersion version line = ((version ≡ 1) × (line ≡ codes "tide certificate 1")) ⊎ ((version ≡ 2) × (line ≡ codes "tide certificate 2"))
 
--- the line of the station spells its name
+-- `SpellsStation name line`: `line` is `station ` and then `name`, which is UTF-8 of 1 to 400 bytes
+-- without ASCII control bytes
 abbrev pub SpellsStation : List ℕ → List ℕ → Type 0
 SpellsStation name line = IsStationName name × (line ≡ codes "station " ++ name)
 
--- the line is `word` and then the moment `m` as text; the moment is in the years 1 to 9999
+-- `SpellsMoment word m line`: `line` is `word` and then the minute `m` as text, such as
+-- `2000-01-10T00:00Z`; `m` counts from 1970-01-01T00:00Z and is in the years 1 to 9999
 abbrev pub SpellsMoment : List ℕ → ℤ → List ℕ → Type 0
 SpellsMoment word m line = IsMoment m × (line ≡ word ++ moment_text m)
 
--- the line of the mark spells the mark, in millionths of the station's unit
+-- `SpellsMark mark line`: `line` is `mark none` if there is no mark, and otherwise `mark ` and the
+-- mark, a number of millionths of the station's unit from -10,000,000,000 to 10,000,000,000
 abbrev pub SpellsMark : Option ℤ → List ℕ → Type 0
 SpellsMark None line = line ≡ codes "mark none"
 SpellsMark (Some mark) line = IsMark mark × (line ≡ codes "mark " ++ signed_decimal mark)
 
--- a line spells a cell of a track; an event of another track has no such line
+-- `SpellsCell track cell line`: `line` is the line of a cell that this track may have: `q ` and 2
+-- to 1,024 quiet minutes, `s` for one still minute, or `t `, the kind of an event that the track
+-- lists, and its level, of at most 14 digits, in millionths of the station's unit
 abbrev pub SpellsCell : TrackName → Cell → List ℕ → Type 0
 SpellsCell track (cells.Quiet n) line = (2 ≤ n) × (n ≤ MOST_MINUTES) × (line ≡ codes "q " ++ decimal n)
 SpellsCell track cells.Still line = line ≡ codes "s"
 SpellsCell track (cells.Turn kind level) line =
     (track_of kind ≡ track) × IsLevel level × (line ≡ codes "t " ++ kind_word kind ++ codes " " ++ signed_decimal level)
 
--- lines spell a track: its heading, and then a line for each cell
+-- `SpellsTrack track cells lines`: `lines` are the heading of the track, such as `track turn`, and
+-- then a line for each of its cells
 abbrev pub SpellsTrack : TrackName → List Cell → List (List ℕ) → Type 0
 SpellsTrack track cells [] = ⊥
 SpellsTrack track cells (line ∷ lines) = (line ≡ codes "track " ++ track_word track) × AllZip (SpellsCell track) cells lines
 
--- the lines of the slack track, which may be absent
+-- `SpellsSlack cells lines`: `lines` are the lines of the track of slack waters, or none if the
+-- track is absent
 abbrev pub SpellsSlack : Option (List Cell) → List (List ℕ) → Type 0
 SpellsSlack None lines = lines ≡ []
 SpellsSlack (Some cells) lines = SpellsTrack Slack cells lines
 
--- the lines of the mark's track, which is present exactly if there is a mark
+-- `SpellsCrossings mark cells lines`: `lines` are the lines of the track of the mark's crossings.
+-- The track must be present if there is a mark, and absent if there is none; then there are no
+-- lines.
 abbrev pub SpellsCrossings : Option ℤ → Option (List Cell) → List (List ℕ) → Type 0
 SpellsCrossings None None lines = lines ≡ []
 SpellsCrossings (Some mark) (Some cells) lines = SpellsTrack Mark cells lines
 SpellsCrossings None (Some cells) lines = ⊥
 SpellsCrossings (Some mark) None lines = ⊥
 
--- the lines of the tracks one after the other, and the last line
+-- `SpellsTracks mark tracks lines`: `lines` are the lines of the tracks in the order turn, slack,
+-- mark, and then `done`; the track of the mark's crossings is present exactly if there is a mark
 pub record SpellsTracks (mark : Option ℤ) (tracks : Tracks) (lines : List (List ℕ)) : Type 0 where
   pub turn : List (List ℕ)
   pub slack : List (List ℕ)
@@ -69,7 +79,7 @@ pub record SpellsTracks (mark : Option ℤ) (tracks : Tracks) (lines : List (Lis
   pub crossings_spelled : SpellsCrossings mark tracks.mark crossings
   pub all : lines ≡ turn ++ (slack ++ (crossings ++ codes "done" ∷ []))
 
--- the lines, without their LF, spell the certificate
+-- `Spells c lines`: `lines`, without their LF, are all lines of the certificate `c`
 abbrev pub Spells : Certificate → List (List ℕ) → Type 0
 Spells c (version ∷ station ∷ begin ∷ end ∷ mark ∷ tracks) =
     SpellsVersion c.version version × SpellsStation c.station station
@@ -83,14 +93,19 @@ Spells c [] = ⊥
 
 -- ---- the text of a certificate, and the line at which bytes stop being one
 
--- the bytes are the text of the certificate
+-- `IsTextOf c bytes`: `bytes` are the text of the certificate `c`: its lines, each with its LF, and
+-- nothing more
 abbrev pub IsTextOf : Certificate → List ℕ → Type 0
 IsTextOf c bytes = IsTextBy Spells c bytes
 
--- the bytes aren't the text of a certificate, and this is the line of their first fault
+-- `IsFaultLine bytes line`: `line` is the least number such that `bytes` have fewer than `line`
+-- lines ended by LF, or no certificate begins with the first `line` of them. It says nothing of
+-- whether `bytes` are the text of a certificate; if they are, `line` is one past the last line.
 abbrev pub IsFaultLine : List ℕ → ℕ → Type 0
 IsFaultLine bytes line = IsFaultBy Spells bytes line
 
--- the result of reading is right: the certificate of the text, or the line of its first fault
+-- `Reads bytes result`: the result of reading `bytes` is right: it is the certificate that they are
+-- the text of; or they are the text of none, and it is the number of the first line such that no
+-- certificate begins with the lines up to it; or it is that memory ran out
 abbrev pub Reads : List ℕ → Result Certificate CertFault → Type 0
 Reads bytes result = ReadsBy Spells bytes result

@@ -1,11 +1,13 @@
--- Two certificates with their texts, and the faults of changed lines (this project).
+-- Two example certificates of events with their texts, and wrong lines with the number of the line
+-- that is reported (this project). `negsuc n` is -(n + 1).
 use Rattle.std.specs.Prelude.{ℕ, ◌-◌, pos, negsuc, List, [], ◌∷◌, Some, None, codes, slice_set}
 use Rattle.curve_law.specs.declared.cell.Cell.TheVariants.{Quiet, Still, Turn}
 use Rattle.curve_law.specs.declared.kind.Kind.TheVariants.{Low, FloodBegins, EbbBegins, MarkRising, MarkFalling}
 use Rattle.cert_text.specs.declared.certificate.Certificate.{Certificate}
 use Rattle.cert_text.specs.Lines.{joined}
 
--- a certificate of eight minutes at Pier, without a mark
+-- a certificate of the station Pier for the eight minutes from 2000-01-10T00:00Z, without a mark:
+-- two still minutes, and then two quiet cells of 2 and 4 minutes
 abbrev pub pier : Certificate
 pier = record {
   version = 1;
@@ -16,13 +18,15 @@ pier = record {
   tracks = record { turn = Still ∷ Still ∷ Quiet 2 ∷ Quiet 4 ∷ []; slack = None; mark = None };
 }
 
--- the lines of the text of the certificate `pier`
+-- the lines, without LF, of the text of the certificate `pier`
 abbrev pub pier_lines : List (List ℕ)
 pier_lines =
     codes "tide certificate 1" ∷ codes "station Pier" ∷ codes "begin 2000-01-10T00:00Z" ∷ codes "end 2000-01-10T00:08Z" ∷ codes "mark none"
     ∷ codes "track turn" ∷ codes "s" ∷ codes "s" ∷ codes "q 2" ∷ codes "q 4" ∷ codes "done" ∷ []
 
--- a certificate of all three tracks, with levels that are 0, negative and of 14 digits
+-- a certificate of the station Narrows with all three tracks and a mark at -0.5 of the unit; the
+-- levels of its events, in millionths, are 0, negative, and of up to 14 digits. Its cells have more
+-- minutes than its span: a certificate that has a text needn't be valid.
 abbrev pub narrows : Certificate
 narrows = record {
   version = 2;
@@ -37,7 +41,7 @@ narrows = record {
   };
 }
 
--- the lines of the text of the certificate `narrows`
+-- the lines, without LF, of the text of the certificate `narrows`
 abbrev pub narrows_lines : List (List ℕ)
 narrows_lines =
     codes "tide certificate 2" ∷ codes "station Narrows" ∷ codes "begin 2000-01-10T05:59Z"
@@ -46,22 +50,24 @@ narrows_lines =
     ∷ codes "track slack" ∷ codes "t flood 0" ∷ codes "t ebb 99999999999999" ∷ codes "q 1024"
     ∷ codes "track mark" ∷ codes "t rise -99999999999999" ∷ codes "t fall 7" ∷ codes "done" ∷ []
 
--- a change of the text of the certificate `pier`: the number of a line, counted from 1, its new text,
--- and the number of the line of the resulting fault
+-- a change of one line of a text: `line` is the number of the line, counted from 1, `text` its new
+-- content, without LF, and `at` the number of the line that reading then reports
 pub record Change : Type 0 where
   pub line : ℕ
   pub text : List ℕ
   pub at : ℕ
 
--- a change as one record
+-- `change line text at`: the change of line `line` to `text`, after which reading reports line
+-- `at`; both count from 1
 abbrev pub change : ℕ → List ℕ → ℕ → Change
 change line text at = record { line = line; text = text; at = at }
 
--- the text of the certificate `pier` with one changed line
+-- the text of the certificate `pier` with one line changed
 abbrev pub pier_with : Change → List ℕ
 pier_with c = joined (slice_set pier_lines (c.line - 1) c.text)
 
--- wrong lines for the text of the certificate `pier`, each with the line of the resulting fault
+-- changes of the text of the certificate `pier` after which it is no text of a certificate, each
+-- with the number of the line that reading then reports
 abbrev pub changes : List Change
 changes =
     change 1 (codes "tide certificate 3") 1

@@ -1,4 +1,4 @@
-//! Cells read from the lines of a certificate.
+//! Reading the cells (claims about consecutive minutes) on the lines of a certificate.
 
 ghost use Rattle.std.specs.Prelude.{◌≡◌, ◌<◌, ◌^◌};
 ghost use Rattle.cert_text.specs.Workings.LineReading.{quiet_for, quiet_of, event_cell_of, cell_of};
@@ -9,7 +9,7 @@ use crate::track_name::TrackName;
 use crate::words::{first_kind, prefix_of, second_kind};
 use curve_law::{Cell, Kind, MOST_MINUTES};
 
-/// Returns a quiet cell of `minutes`, or `None` unless there are 2 to 1,024 of them.
+/// Returns a cell of `minutes` without an event, or `None` unless `minutes` is from 2 to 1,024.
 fn quiet_for(minutes: u128) -> Option<Cell>
     ensures { result ≡ quiet_for minutes }
 {
@@ -20,7 +20,8 @@ fn quiet_for(minutes: u128) -> Option<Cell>
     }
 }
 
-/// Reads a line such as `q 1024`; `None` if `line` isn't a quiet cell.
+/// Returns the cell of a line such as `q 1024`, 2 to 1,024 minutes without an event; `None` if
+/// `line` isn't such a line.
 #[tactic(auto, unfolding(crate::specs::Workings::LineReading::quiet_of))]
 fn quiet_of(line: &[u8]) -> Option<Cell>
     ensures { result ≡ quiet_of line.now }
@@ -29,7 +30,8 @@ fn quiet_of(line: &[u8]) -> Option<Cell>
     quiet_for(minutes)
 }
 
-/// Reads the line of an event of `kind`, such as `t low -1000000`; `None` if `line` isn't one.
+/// Returns the cell of the line of an event of `kind`, such as `t low -1000000`; `None` if `line`
+/// isn't such a line.
 #[tactic(auto, unfolding(crate::specs::Workings::LineReading::event_cell_of))]
 fn event_cell_of(kind: Kind, line: &[u8]) -> Option<Cell>
     ensures { result ≡ event_cell_of kind line.now }
@@ -38,7 +40,10 @@ fn event_cell_of(kind: Kind, line: &[u8]) -> Option<Cell>
     Some(Cell::Turn(kind, level))
 }
 
-/// Reads the cell on `line`, or returns `None` if `line` isn't a cell of `track`.
+/// Returns the cell on `line`: `q` and 2 to 1,024 minutes without an event, `s` for one such
+/// minute, or an event of a kind that `track` lists and its level, such as `t low -1000000`, in
+/// millionths of the station's unit. Returns `None` if `line`, which is without its LF, isn't a
+/// cell that `track` may have.
 #[tactic(auto, unfolding(crate::specs::Workings::LineReading::cell_of))]
 pub fn cell_of(track: TrackName, line: &[u8]) -> Option<Cell>
     ensures { result ≡ cell_of track line.now }

@@ -1,25 +1,28 @@
-//! The type of a certificate.
+//! The type of a certificate of events.
 
 use curve_law::Tracks;
 use decimal_text::Text;
 
-/// A claim about a station's events in a span: the request, and the cells of each track that the request
-/// asks for. Contracts about the text of a certificate require `IsCertificate`, which says that the
-/// fields are in the ranges below.
+/// A claim about the events at a station in a span of minutes: the request, and for each requested
+/// track the cells (claims about consecutive minutes) that divide the span. Contracts about the
+/// text of a certificate require `IsCertificate`: each field is in the range given below.
 #[derive(Drop)]
 pub struct Certificate {
-    /// The version of the certificate, 1 or 2: the rules by which its quiet cells are checked.
+    /// The version of the certificate, 1 or 2. It selects the rule by which a checker decides that
+    /// a cell has no event.
     pub version: u32,
-    /// The station's name: 1 to 400 bytes of UTF-8 without control bytes of ASCII (below 32, or 127).
+    /// The station's name: UTF-8 of 1 to 400 bytes without ASCII control bytes (below 32, or 127).
     pub station: Text,
-    /// The first minute of the span, in minutes since 1970-01-01T00:00Z, in the years 1 to 9999.
+    /// The first minute of the span, counted from 1970-01-01T00:00Z, in the years 1 to 9999.
     pub begin: i64,
-    /// The end of the span, in minutes since 1970-01-01T00:00Z, in the years 1 to 9999. It isn't part of
-    /// the span.
+    /// The end of the span, counted in minutes from 1970-01-01T00:00Z, in the years 1 to 9999. It
+    /// isn't part of the span.
     pub end: i64,
-    /// The level whose crossings are requested, in millionths of the station's unit, at most
-    /// 10,000,000,000 in size, or `None` if none is.
+    /// The mark, a level of which the crossings are requested, in millionths of the station's unit,
+    /// from -10,000,000,000 to 10,000,000,000; `None` if no crossings are requested.
     pub mark: Option<i64>,
-    /// The cells of each track. The track of the mark is present exactly if there is a mark.
+    /// The cells of each track: quiet cells have 2 to 1,024 minutes, and events are of a kind that
+    /// the track lists, at a level of at most 14 digits. The track of the mark's crossings is
+    /// present exactly if there is a mark.
     pub tracks: Tracks,
 }

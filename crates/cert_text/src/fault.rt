@@ -1,4 +1,4 @@
-//! The error of reading a certificate.
+//! The errors of reading a certificate.
 
 ghost use Rattle.std.specs.Prelude.{◌≡◌};
 
@@ -11,8 +11,9 @@ pub enum CertFault {
     /// Memory ran out while the certificate was read.
     #[error("no memory for the certificate")]
     NoMemory,
-    /// The bytes aren't the text of a certificate. `line`, counted from 1, is the first line such that
-    /// no certificate begins with the lines up to it.
+    /// The bytes aren't the text of a certificate. `line`, counted from 1, is the first line such
+    /// that no certificate begins with the lines up to and including it; it is one past the last
+    /// line if the bytes end too early.
     #[error("line {line} is of no certificate")]
     NotACertificate { line: u32 },
 }

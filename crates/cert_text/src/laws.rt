@@ -1,4 +1,4 @@
-//! Consequences of the grammar of certificates.
+//! Theorems about the texts of certificates.
 
 ghost use Rattle.std.specs.Prelude.{◌≡◌, ◌≢◌, ℕ, ◌+◌, ◌*◌, ◌<◌, ◌≤◌, List, ◌++◌, length, Ok, Err};
 ghost use Rattle.curve_law.specs.declared.cell.Cell.{Cell};
@@ -20,9 +20,9 @@ ghost use Rattle.cert_text.specs.Lines.{
 ghost use Rattle.cert_text.specs.Spelling.{Spells, IsTextOf, IsFaultLine, Reads};
 ghost use Rattle.cert_text.specs.Readings.{certificate_of};
 
-/// Proves that each certificate with fields in the ranges that [`Certificate`](crate::Certificate) lists
-/// has exactly one text, that no other certificate has a text, and that each text belongs to at most one
-/// certificate.
+/// Proves that each certificate with fields in the ranges that [`Certificate`](crate::Certificate)
+/// lists has exactly one text, both as lines and as bytes. Also proves that no other certificate
+/// has a text, and that two different certificates never have the same text.
 pub fn certificates_have_one_text()
     ensures lines { (c : Certificate) → IsCertificate c → Spells c (lines_of c) }
     ensures only_lines { (c : Certificate) (lines : List (List ℕ)) →
@@ -34,8 +34,10 @@ pub fn certificates_have_one_text()
         IsTextOf c bytes → IsTextOf d bytes → c ≡ d }
 {}
 
-/// Proves that the text of a certificate is the texts of its parts, one after the other. The line of a
-/// cell has at most 24 bytes with its LF, and the other parts together at most 536.
+/// Proves that the text of a certificate consists of its first five lines, the lines of each track,
+/// and the last line, in this order. Also proves that the line of a cell (a claim about consecutive
+/// minutes) has at most 24 bytes with its LF, and the whole text at most 536 bytes and 24 for each
+/// cell.
 pub fn texts_come_in_parts()
     ensures parts { (c : Certificate) → certificate_text c
         ≡ joined (head_lines_of c) ++ joined (track_lines_of TrackName.Turn c.tracks.turn)
@@ -46,9 +48,11 @@ pub fn texts_come_in_parts()
         length (certificate_text c) ≤ 536 + 24 * cell_count c }
 {}
 
-/// Proves that the text of a certificate with levels of at most 11,000 of the station's units in size
-/// has at most 21 bytes for each cell and 536 for the rest. If it has at most three tracks of 5,273,280
-/// one-minute cells, which is more than the longest span has, it has fewer than 333,000,000 bytes.
+/// Proves bounds for certificates with levels from -11,000 to 11,000 of the station's units: the
+/// line of a cell (a claim about consecutive minutes) has at most 21 bytes with its LF, and the
+/// whole text at most 536 bytes and 21 for each cell. With at most 15,819,840 cells (three tracks
+/// of 5,273,280 one-minute cells, more than the longest span has) it has fewer than 333,000,000
+/// bytes.
 pub fn certificates_are_short()
     ensures cell { (cell : Cell) → IsCell cell → HasUsualLevel cell → length (ended (cell_line_of cell)) ≤ 21 }
     ensures length_bound { (c : Certificate) → IsCertificate c → HasUsualLevels c →
@@ -57,9 +61,11 @@ pub fn certificates_are_short()
         length (certificate_text c) < 333000000 }
 {}
 
-/// Proves that reading line by line follows the grammar for all bytes, unless memory runs out: it
-/// returns the certificate that the bytes are the text of, or the line of the fault if there is none.
-/// The text of a certificate reads as this certificate.
+/// Proves that `certificate_of`, the result of reading bytes line by line with enough memory,
+/// follows the grammar for all bytes: it is the certificate with this text or, if there is none,
+/// the first line such that no certificate begins with the lines up to it. It is never the fault
+/// that memory ran out. The text of a certificate reads as this certificate, and for given bytes at
+/// most one number meets `IsFaultLine`.
 pub fn readings_go_by_the_grammar()
     ensures reads { (bytes : List ℕ) → Reads bytes (certificate_of bytes) }
     ensures never_memory { (bytes : List ℕ) → certificate_of bytes ≢ Err CertFault.NoMemory }

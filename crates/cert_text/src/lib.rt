@@ -1,9 +1,11 @@
-//! The text of a certificate, read and written.
+//! The text of a certificate of events, read and written.
 //!
-//! A [`Certificate`] names a station, a span and a mark, and divides the span into cells for each
-//! requested track. Its text is lines of words and whole numbers, which any program can write.
-//! [`write_certificate`] returns the only text of a certificate, and [`read_certificate`] returns the
-//! certificate of a text or the line of its first fault. `specs/Spelling.antt` is the grammar.
+//! A [`Certificate`] names a station, a span of minutes and a mark (a level at which crossings are
+//! listed), and for each requested track it divides the span into cells (claims about consecutive
+//! minutes). Its text is lines of words and whole numbers, which any program can write.
+//! [`write_certificate`] returns the only text of a certificate. [`read_certificate`] returns the
+//! certificate of a text, or the first line such that no certificate begins with the lines up to
+//! it. `specs/Spelling.antt` is the grammar.
 #![tactic(auto)]
 
 mod cell_reading;

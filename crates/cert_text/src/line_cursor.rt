@@ -1,4 +1,4 @@
-//! A position in a text, which advances line by line.
+//! A position in a text that is read line by line.
 
 ghost use Rattle.std.specs.Prelude.{◌≡◌, ◌≤◌, ℕ, List, Option, length, IfNone, MatchOption, MatchResult};
 ghost use Rattle.decimal_text.specs.declared.limits.TheConstants.{MOST_BYTES};
@@ -8,21 +8,21 @@ use crate::fault::CertFault;
 use crate::lines::next_line;
 use std::marker::Model;
 
-/// The form of an item, in a list of items with one on each line.
+/// How a line is read as an item, in a list with one item on each line.
 pub trait ItemForm {
-    /// An item of the list.
+    /// The type of an item.
     type Item: Drop;
 
-    /// The item on a line, or `None` if the line isn't an item.
+    /// The item on a line without its LF, or `None` if the line isn't an item.
     ghost item_of: { Self → List ℕ → Option Self.Item };
 
-    /// Reads the item on `line`, or returns `None` if `line` isn't an item.
+    /// Returns the item on `line`, which is without its LF, or `None` if `line` isn't an item.
     fn read_item(&self, line: &[u8]) -> Option<Self::Item>
         ensures { result ≡ item_of self.now line.now };
 }
 
-/// A position in a text that is read line by line. In contracts its value is the number of lines read,
-/// the unread lines, and the bytes after the last LF.
+/// A position in a text that is read line by line. In contracts its value is the number of lines
+/// read, the unread lines, and the bytes after the last LF.
 #[derive(Drop)]
 pub struct LineCursor<'a> {
     rest: &'a [u8],
@@ -42,7 +42,8 @@ impl<'a> Model for LineCursor<'a> {
 }
 
 impl<'a> LineCursor<'a> {
-    /// Returns the position before the first line of `bytes`, which have at most 400,000,000 bytes.
+    /// Returns the position before the first line of `bytes`; there are at most 400,000,000 of
+    /// them.
     pub fn new(bytes: &'a [u8]) -> LineCursor<'a>
         requires { length bytes.now ≤ MOST_BYTES }
         ensures { result ≡ place_at 0 bytes.now }
@@ -53,10 +54,11 @@ impl<'a> LineCursor<'a> {
         }
     }
 
-    /// Reads the next line and returns it without its LF.
+    /// Reads the next line and returns it without its LF. Bytes after the last LF aren't a line.
     ///
     /// # Errors
-    /// [`CertFault::NotACertificate`] if there is no further LF.
+    /// [`CertFault::NotACertificate`] with the number of the next line, counted from 1, if there is
+    /// no further LF.
     pub fn next(&mut self) -> Result<&'a [u8], CertFault>
         ensures { MatchResult result (λ line. any_line self.old ≡ Ok (line.now, self.new)) (λ fault. any_line self.old ≡ Err fault) }
     {
@@ -70,7 +72,8 @@ impl<'a> LineCursor<'a> {
         Ok(line)
     }
 
-    /// Returns the fault of the line that was read last.
+    /// Returns [`CertFault::NotACertificate`] with the number of lines read, which is the number of
+    /// the line that was read last.
     pub fn fault(&self) -> CertFault
         ensures { result ≡ CertFault.NotACertificate self.now.lines_read }
     {
@@ -79,7 +82,7 @@ impl<'a> LineCursor<'a> {
         }
     }
 
-    /// Returns true if the next line is `word`.
+    /// Returns true if the next line, which must be ended by LF, is `word`. Nothing is read.
     pub fn is_next(&self, word: &str) -> bool
         ensures { result ≡ is_next word.now self.now.lines }
     {
@@ -89,8 +92,8 @@ impl<'a> LineCursor<'a> {
         }
     }
 
-    /// Reads the next line if it is an item of `form`, and returns the item; otherwise reads nothing and
-    /// returns `None`.
+    /// Reads the next line and returns the item on it. If there is no further line, or it isn't an
+    /// item of `form`, nothing is read and the result is `None`.
     pub fn take_item<F: ItemForm>(&mut self, form: &F) -> Option<F::Item>
         ensures item { MatchOption result (first_item (F.item_of form.now) self.old ≡ None) (λ item. first_item (F.item_of form.now) self.old ≡ Some (item, self.new)) }
         ensures none { IfNone result (self.new ≡ self.old) }
@@ -102,10 +105,11 @@ impl<'a> LineCursor<'a> {
         Some(item)
     }
 
-    /// Checks that no byte is unread.
+    /// Checks that no byte is unread. Nothing is read.
     ///
     /// # Errors
-    /// [`CertFault::NotACertificate`] with the number of the next line, if there is another byte.
+    /// [`CertFault::NotACertificate`] with the number of the next line, counted from 1, if a byte
+    /// is unread.
     pub fn finish(&self) -> Result<(), CertFault>
         ensures { TakesExactly end_of_text self.now self.now result }
     {

@@ -1,4 +1,4 @@
-//! The first five lines of a certificate, read.
+//! Reading the first five lines of a certificate.
 
 ghost use Rattle.std.specs.Prelude.{◌≡◌, option_copied};
 ghost use Rattle.cert_text.specs.Workings.LineReading.{version_of, named, station_of, moment_after, mark_within, mark_of};
@@ -8,8 +8,8 @@ use crate::numbers::level_after;
 use decimal_text::are_name_bytes;
 use zone_time::read_moment;
 
-/// Reads the version, 1 or 2, from the first line of a certificate, or returns `None` if `line` isn't
-/// one.
+/// Returns the version, 1 or 2, in `line`, the first line of a certificate, without its LF. Returns
+/// `None` if `line` is neither `tide certificate 1` nor `tide certificate 2`.
 #[tactic(auto, unfolding(crate::specs::Workings::LineReading::version_of))]
 pub fn version_of(line: &[u8]) -> Option<u32>
     ensures { result ≡ version_of line.now }
@@ -23,7 +23,8 @@ pub fn version_of(line: &[u8]) -> Option<u32>
     }
 }
 
-/// Returns `bytes` as text, or `None` if they can't be a station's name.
+/// Returns `bytes` as text, or `None` if they can't be a station's name: UTF-8 of 1 to 400 bytes
+/// without ASCII control bytes.
 fn named(bytes: &[u8]) -> Option<&str>
     ensures { option_copied result ≡ named bytes.now }
 {
@@ -36,8 +37,8 @@ fn named(bytes: &[u8]) -> Option<&str>
     }
 }
 
-/// Reads the station's name from a line such as `station Pier`, or returns `None` if `line` isn't
-/// one.
+/// Returns the station's name in a line such as `station Pier`, without its LF. Returns `None` if
+/// `line` isn't `station ` and UTF-8 of 1 to 400 bytes without ASCII control bytes.
 #[tactic(auto, unfolding(crate::specs::Workings::LineReading::station_of))]
 pub fn station_of(line: &[u8]) -> Option<&str>
     ensures { option_copied result ≡ station_of line.now }
@@ -45,8 +46,8 @@ pub fn station_of(line: &[u8]) -> Option<&str>
     named(after(b"station ".as_slice(), line)?)
 }
 
-/// Reads the moment that follows `word` on `line`, in minutes since 1970-01-01T00:00Z. Returns
-/// `None` unless `line` is `word` and a moment of the years 1 to 9999, such as `2000-01-10T06:00Z`.
+/// Returns the minute that follows `word` on `line`, counted from 1970-01-01T00:00Z. Returns `None`
+/// if `line` isn't `word` and a minute of the years 1 to 9999, such as `2000-01-10T06:00Z`.
 #[tactic(auto, unfolding(crate::specs::Workings::LineReading::moment_after))]
 pub fn moment_after(word: &[u8], line: &[u8]) -> Option<i64>
     ensures { result ≡ moment_after word.now line.now }
@@ -54,7 +55,8 @@ pub fn moment_after(word: &[u8], line: &[u8]) -> Option<i64>
     read_moment(after(word, line)?)
 }
 
-/// Returns `mark`, in millionths of the station's unit, or `None` if it exceeds 10,000,000,000 in size.
+/// Returns `Some(Some(mark))`, or `None` unless `mark` is from -10,000,000,000 to 10,000,000,000
+/// millionths of the station's unit.
 fn mark_within(mark: i64) -> Option<Option<i64>>
     ensures { result ≡ mark_within mark }
 {
@@ -65,8 +67,9 @@ fn mark_within(mark: i64) -> Option<Option<i64>>
     }
 }
 
-/// Reads the line of the mark: `Some(None)` for `mark none`, `Some(Some(mark))` for a mark in millionths
-/// of the station's unit, and `None` if `line` is neither.
+/// Returns the mark in `line`, which is without its LF: `Some(None)` for `mark none`, and
+/// `Some(Some(mark))` for a line such as `mark 1500000`, in millionths of the station's unit, from
+/// -10,000,000,000 to 10,000,000,000. Returns `None` if `line` is neither.
 #[tactic(auto, unfolding(crate::specs::Workings::LineReading::mark_of))]
 pub fn mark_of(line: &[u8]) -> Option<Option<i64>>
     ensures { result ≡ mark_of line.now }

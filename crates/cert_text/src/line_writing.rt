@@ -1,4 +1,4 @@
-//! The lines of a certificate, written with their LF. None allocates.
+//! Writing the lines of a certificate. Nothing is allocated.
 
 ghost use Rattle.std.specs.Prelude.{◌≡◌, ◌≤◌, ◌+◌, ◌++◌, ◌⊎◌, [], length, IfSome, unsigned_abs};
 ghost use Rattle.std.specs.Fmt.{signed_decimal};
@@ -14,7 +14,7 @@ use curve_law::Cell;
 use itoa::Buffer;
 use zone_time::write_moment;
 
-/// Appends `number`, which is below 10^14 in size, in decimal.
+/// Appends `number`, which is below 10^14 in size, to `out` in decimal.
 fn push_number<const N: usize>(number: i64, out: &mut ArrayString<N>)
     requires size { unsigned_abs number ≤ 99999999999999 }
     requires room { array_string_len out.old + 15 ≤ N }
@@ -25,7 +25,8 @@ fn push_number<const N: usize>(number: i64, out: &mut ArrayString<N>)
     out.push_str(buffer.format(number));
 }
 
-/// Appends the moment `m`, minutes since 1970-01-01T00:00Z, as `2000-01-10T06:00Z`.
+/// Appends the minute `m`, counted from 1970-01-01T00:00Z, in the years 1 to 9999, to `out`, such
+/// as `2000-01-10T06:00Z`.
 fn push_moment(m: i64, out: &mut ArrayString<24>)
     requires moment { IsMoment m }
     requires room { array_string_len out.old + 17 ≤ 24 }
@@ -37,7 +38,7 @@ fn push_moment(m: i64, out: &mut ArrayString<24>)
     out.push_str(text.as_str());
 }
 
-/// Returns the first line of a certificate of `version` without its LF.
+/// Returns the first line of a certificate of `version`, without its LF.
 #[tactic(auto, unfolding(crate::specs::Lines::title_of))]
 fn title_of(version: u32) -> &'static str
     ensures text { result.now ≡ title_of version }
@@ -50,8 +51,8 @@ fn title_of(version: u32) -> &'static str
     }
 }
 
-/// Writes the first line of a certificate, such as `tide certificate 2`, to the empty `out`. `version`
-/// is 1 or 2.
+/// Writes the first line of a certificate of `version`, 1 or 2, such as `tide certificate 2`, with
+/// its LF, to `out`, which must be empty.
 pub fn title_line(version: u32, out: &mut ArrayString<24>)
     requires version { (version ≡ 1) ⊎ (version ≡ 2) }
     requires empty { out.old.bytes ≡ [] }
@@ -61,8 +62,9 @@ pub fn title_line(version: u32, out: &mut ArrayString<24>)
     out.push('\n');
 }
 
-/// Writes the line of the span's first minute `m`, such as `begin 2000-01-10T00:00Z`, to the empty
-/// `out`. `m` is in minutes since 1970-01-01T00:00Z, in the years 1 to 9999.
+/// Writes the line with the first minute `m` of a span, such as `begin 2000-01-10T00:00Z`, with its
+/// LF, to `out`, which must be empty. `m` counts from 1970-01-01T00:00Z and is in the years 1 to
+/// 9999.
 #[tactic(auto, unfolding(crate::specs::Lines::begin_line_of))]
 pub fn begin_line(m: i64, out: &mut ArrayString<24>)
     requires moment { IsMoment m }
@@ -74,9 +76,9 @@ pub fn begin_line(m: i64, out: &mut ArrayString<24>)
     out.push('\n');
 }
 
-/// Writes the line of the span's end, the minute `m` after its last one, such as
-/// `end 2000-01-11T00:00Z`, to the empty `out`. `m` is in minutes since 1970-01-01T00:00Z, in the years
-/// 1 to 9999.
+/// Writes the line with the end `m` of a span, the minute after its last, such as
+/// `end 2000-01-11T00:00Z`, with its LF, to `out`, which must be empty. `m` counts from
+/// 1970-01-01T00:00Z and is in the years 1 to 9999.
 #[tactic(auto, unfolding(crate::specs::Lines::end_line_of))]
 pub fn end_line(m: i64, out: &mut ArrayString<24>)
     requires moment { IsMoment m }
@@ -88,7 +90,8 @@ pub fn end_line(m: i64, out: &mut ArrayString<24>)
     out.push('\n');
 }
 
-/// Writes the line of the mark, in millionths of the station's unit, without its LF to the empty `out`.
+/// Writes the line with the mark, in millionths of the station's unit, without its LF, to `out`,
+/// which must be empty.
 #[tactic(auto, unfolding(crate::specs::Lines::mark_line_of))]
 fn push_mark(mark: Option<i64>, out: &mut ArrayString<24>)
     requires mark { IfSome mark IsMark }
@@ -105,8 +108,9 @@ fn push_mark(mark: Option<i64>, out: &mut ArrayString<24>)
     }
 }
 
-/// Writes the line of `mark`, in millionths of the station's unit, such as `mark none` or
-/// `mark 1500000`, to the empty `out`. A mark is from -10,000,000,000 to 10,000,000,000.
+/// Writes the line with the mark (a level at which crossings are listed), such as `mark none` or
+/// `mark 1500000`, with its LF, to `out`, which must be empty. `mark` is in millionths of the
+/// station's unit, from -10,000,000,000 to 10,000,000,000.
 pub fn mark_line(mark: Option<i64>, out: &mut ArrayString<24>)
     requires mark { IfSome mark IsMark }
     requires empty { out.old.bytes ≡ [] }
@@ -116,7 +120,8 @@ pub fn mark_line(mark: Option<i64>, out: &mut ArrayString<24>)
     out.push('\n');
 }
 
-/// Writes the line before a track's cells, such as `track turn`, to the empty `out`.
+/// Writes the line before the cells of `track`, such as `track turn`, with its LF, to `out`, which
+/// must be empty.
 #[tactic(auto, unfolding(crate::specs::Lines::heading_of))]
 pub fn heading_line(track: TrackName, out: &mut ArrayString<24>)
     requires { out.old.bytes ≡ [] }
@@ -127,7 +132,7 @@ pub fn heading_line(track: TrackName, out: &mut ArrayString<24>)
     out.push('\n');
 }
 
-/// Appends the line of `cell` without its LF.
+/// Appends the line of `cell`, without its LF, to `out`.
 #[tactic(auto, unfolding(crate::specs::Lines::cell_line_of))]
 fn push_cell<const N: usize>(cell: Cell, out: &mut ArrayString<N>)
     requires cell { IsCell cell }
@@ -148,9 +153,9 @@ fn push_cell<const N: usize>(cell: Cell, out: &mut ArrayString<N>)
     }
 }
 
-/// Appends the line of `cell`, such as `q 1024`, `s` or `t low -1000000`, of at most 24 bytes with its
-/// LF. Quiet minutes are 2 to 1,024, and a level is at most 99,999,999,999,999 millionths of the
-/// station's unit in size.
+/// Appends the line of `cell` with its LF, at most 24 bytes, to `out`: `q 1024` for minutes without
+/// an event, from 2 to 1,024, `s` for one such minute, or `t low -1000000` for an event and its
+/// level, at most 14 digits, in millionths of the station's unit.
 pub fn push_cell_line<const N: usize>(cell: &Cell, out: &mut ArrayString<N>)
     requires cell { IsCell cell.now }
     requires room { array_string_len out.old + 24 ≤ N }
@@ -161,9 +166,9 @@ pub fn push_cell_line<const N: usize>(cell: &Cell, out: &mut ArrayString<N>)
     out.push_str("\n");
 }
 
-/// Writes the line of `cell`, such as `q 1024`, `s` or `t low -1000000`, to the empty `out`. Quiet
-/// minutes are 2 to 1,024, and a level is at most 99,999,999,999,999 millionths of the station's unit in
-/// size.
+/// Writes the line of `cell` with its LF to `out`, which must be empty: `q 1024` for minutes
+/// without an event, from 2 to 1,024, `s` for one such minute, or `t low -1000000` for an event and
+/// its level, at most 14 digits, in millionths of the station's unit.
 pub fn cell_line(cell: &Cell, out: &mut ArrayString<24>)
     requires cell { IsCell cell.now }
     requires empty { out.old.bytes ≡ [] }
@@ -172,7 +177,7 @@ pub fn cell_line(cell: &Cell, out: &mut ArrayString<24>)
     push_cell_line(cell, out);
 }
 
-/// Writes the last line of a certificate, `done`, to the empty `out`.
+/// Writes the last line of a certificate, `done`, with its LF, to `out`, which must be empty.
 #[tactic(auto, unfolding(crate::specs::Lines::last_line))]
 pub fn last_line(out: &mut ArrayString<24>)
     requires { out.old.bytes ≡ [] }

@@ -1,18 +1,18 @@
-//! Lines and prefixes of bytes.
+//! Splitting bytes into lines, and removing prefixes.
 
 ghost use Rattle.std.specs.Prelude.{◌≡◌, ◌<◌, ◌∷◌, [], length, MatchOption, IfSome, position, option_copied};
 ghost use Rattle.cert_text.specs.ByLine.{is_lf, lines_in, last_in};
 ghost use Rattle.cert_text.specs.Workings.LineReading.{after};
 
-/// Returns the index of the first LF, or `None` if there isn't one.
+/// Returns the index, counted from 0, of the first LF in `bytes`, or `None` if there is none.
 fn lf_at(bytes: &[u8]) -> Option<usize>
     ensures { result ≡ position is_lf bytes.now }
 {
     bytes.iter().position(|b| *b == b'\n')
 }
 
-/// Returns the first line of `bytes` without its LF, and the bytes after the LF; `None` if `bytes`
-/// has no LF.
+/// Returns the first line of `bytes`, without its LF, and the bytes after this LF. Returns `None`
+/// if `bytes` has no LF.
 pub fn next_line(bytes: &[u8]) -> Option<(&[u8], &[u8])>
     ensures shorter { IfSome result (λ r. length r.1.now < length bytes.now) }
     ensures exact { MatchOption result (lines_in bytes.now ≡ [])
@@ -28,7 +28,8 @@ pub fn next_line(bytes: &[u8]) -> Option<(&[u8], &[u8])>
     }
 }
 
-/// Returns the part of `line` after the prefix `word`, or `None` if `line` doesn't begin with `word`.
+/// Returns the rest of `line` after the prefix `word`, or `None` if `line` doesn't begin with
+/// `word`.
 #[tactic(auto, unfolding(crate::specs::Workings::LineReading::after))]
 pub fn after<'a>(word: &[u8], line: &'a [u8]) -> Option<&'a [u8]>
     ensures { option_copied result ≡ after word.now line.now }

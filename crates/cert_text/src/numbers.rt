@@ -1,4 +1,4 @@
-//! Whole numbers read from text.
+//! Reading whole numbers from text.
 
 ghost use Rattle.std.specs.Prelude.{◌≡◌, ◌<◌, ◌≤◌, ◌^◌, IfSome, option_and_then, unsigned_abs};
 ghost use Rattle.cert_text.specs.Workings.LineReading.{after, size_of, negative, parse_number};
@@ -6,12 +6,12 @@ ghost use Rattle.cert_text.specs.Workings.LineReading.{after, size_of, negative,
 use crate::lines::after;
 use decimal_text::wide_digits;
 
-/// The greatest number of digits of a level in a certificate; a level is in millionths of the station's
-/// unit.
+/// The greatest number of decimal digits that are read for a number in a certificate: a level or a
+/// mark, in millionths of the station's unit, or a number of minutes.
 pub const LEVEL_DIGITS: usize = 14;
 
-/// Reads a decimal number of 1 to `most` digits without leading zeros, or returns `None` if `text` isn't
-/// one. `most` is at most 38.
+/// Returns the number that `text` writes with 1 to `most` decimal digits; `most` is at most 38.
+/// Returns `None` for any other text, and for a leading zero before further digits.
 #[tactic(auto, unfolding(crate::specs::Workings::LineReading::size_of))]
 pub fn size_of(text: &[u8], most: usize) -> Option<u128>
     requires { most ≤ 38 }
@@ -24,7 +24,7 @@ pub fn size_of(text: &[u8], most: usize) -> Option<u128>
     wide_digits(text, most)
 }
 
-/// Returns `-size`, or `None` if `size` is 0.
+/// Returns `-size`, or `None` if `size` is 0, since `-0` is refused.
 fn negative(size: u128) -> Option<i128>
     requires { size < 10 ^ 38 }
     ensures { result ≡ negative size }
@@ -36,8 +36,9 @@ fn negative(size: u128) -> Option<i128>
     }
 }
 
-/// Reads a decimal number of 1 to `most` digits without leading zeros, with `-` before it if it is
-/// negative, or returns `None` if `text` isn't one; `-0` isn't. `most` is at most 38.
+/// Returns the number that `text` writes with 1 to `most` decimal digits, after `-` if it is
+/// negative; `most` is at most 38. Returns `None` for any other text, for a leading zero before
+/// further digits, and for `-0`.
 #[tactic(auto, unfolding(crate::specs::Workings::LineReading::parse_number))]
 pub fn parse_number(text: &[u8], most: usize) -> Option<i128>
     requires { most ≤ 38 }
@@ -50,8 +51,9 @@ pub fn parse_number(text: &[u8], most: usize) -> Option<i128>
     }
 }
 
-/// Reads the level, in millionths of the station's unit, that follows `word` on `line`, a number of at
-/// most 14 digits, or returns `None` unless `line` is `word` and such a number.
+/// Returns the level, in millionths of the station's unit, that follows `word` on `line`. Returns
+/// `None` if `line` isn't `word` and then a number of 1 to 14 decimal digits, after `-` if it is
+/// negative, without a leading zero.
 pub fn level_after(word: &[u8], line: &[u8]) -> Option<i64>
     ensures { result ≡ option_and_then (parse_number LEVEL_DIGITS) (after word.now line.now) }
 {

@@ -1,4 +1,4 @@
-//! Certificates read from text.
+//! Reading certificates from text.
 
 ghost use Rattle.std.specs.Prelude.{◌≡◌, ◌≤◌, length, IfOk, is_some};
 ghost use Rattle.decimal_text.specs.Expected.{EqualsUnlessNoMemory};
@@ -31,7 +31,8 @@ impl ItemForm for TrackName {
     }
 }
 
-/// Reads a track: its heading and its cells.
+/// Reads a track: its heading and its cells. Fails with the number of the heading's line if this is
+/// another line, or if memory runs out.
 fn read_track(
     alloc: Global,
     lines: &mut LineCursor<'_>,
@@ -43,7 +44,7 @@ fn read_track(
     Ok(Cells::from_vec(items(alloc, lines, &track)?))
 }
 
-/// Reads a track if `there`, and otherwise returns `None`.
+/// Reads a track if `there` is true; otherwise reads nothing and returns `None`.
 fn read_track_if(
     there: bool,
     alloc: Global,
@@ -58,7 +59,8 @@ fn read_track_if(
     Ok(Some(read_track(alloc, lines, track)?))
 }
 
-/// Reads the slack track if its heading is the next line, and otherwise returns `None`.
+/// Reads the track of slack waters if its heading is the next line; otherwise reads nothing and
+/// returns `None`.
 fn read_slack(alloc: Global, lines: &mut LineCursor<'_>) -> Result<Option<Cells>, CertFault>
     ensures { Takes (part_after (heading_of TrackName.Slack) (track_part TrackName.Slack)) lines.old lines.new result }
 {
@@ -66,7 +68,8 @@ fn read_slack(alloc: Global, lines: &mut LineCursor<'_>) -> Result<Option<Cells>
     read_track_if(lines.is_next(track.heading()), alloc, lines, track)
 }
 
-/// Reads the mark's track if `mark` isn't `None`, and otherwise returns `None`.
+/// Reads the track of the mark's crossings if there is a mark; otherwise reads nothing and returns
+/// `None`.
 fn read_crossings(
     alloc: Global,
     lines: &mut LineCursor<'_>,
@@ -77,8 +80,11 @@ fn read_crossings(
     read_track_if(mark.is_some(), alloc, lines, TrackName::Mark)
 }
 
-/// Reads the last line of a certificate, `done`, and checks that no byte is unread. Otherwise it returns
-/// the fault with the line's number.
+/// Reads the last line of a certificate, `done`, and checks that no byte is unread.
+///
+/// # Errors
+/// [`CertFault::NotACertificate`] with the number of the line, counted from 1, if it isn't `done`
+/// or is missing, or with the number after it if a byte is unread.
 pub fn read_last(lines: &mut LineCursor<'_>) -> Result<(), CertFault>
     ensures { TakesExactly last_part lines.old lines.new result }
 {
@@ -86,7 +92,8 @@ pub fn read_last(lines: &mut LineCursor<'_>) -> Result<(), CertFault>
     lines.finish()
 }
 
-/// Reads the tracks and the last line. The mark's track is read only if `mark` isn't `None`.
+/// Reads the tracks and the last line of a certificate. The track of the mark's crossings is read
+/// exactly if there is a mark.
 fn read_tracks(
     alloc: Global,
     lines: &mut LineCursor<'_>,
@@ -105,7 +112,7 @@ fn read_tracks(
     })
 }
 
-/// Reads a whole certificate.
+/// Reads a whole certificate, up to the end of the text.
 fn read_lines(alloc: Global, lines: &mut LineCursor<'_>) -> Result<Certificate, CertFault>
     ensures { Takes certificate_part lines.old lines.new result }
 {
@@ -125,13 +132,14 @@ fn read_lines(alloc: Global, lines: &mut LineCursor<'_>) -> Result<Certificate, 
     })
 }
 
-/// Returns the certificate of the text `bytes`, at most 400,000,000 bytes. It takes linear time.
+/// Returns the certificate that `bytes` are the text of; there are at most 400,000,000 of them. It
+/// takes linear time.
 ///
 /// # Errors
-/// [`CertFault::NotACertificate`] exactly if `bytes` isn't the text of a certificate. Its line is the
-/// first, counted from 1, such that no certificate begins with the lines up to it, each with its LF:
-/// bytes after the last LF aren't a line, and if the bytes end too early the line is one past the last.
-/// If memory runs out, [`CertFault::NoMemory`] is returned in place of any other result.
+/// [`CertFault::NotACertificate`] if `bytes` aren't the text of a certificate. Its line is the
+/// first, counted from 1, such that no certificate begins with the lines up to and including it.
+/// Bytes after the last LF aren't a line; if the bytes end too early, the line is one past the
+/// last. [`CertFault::NoMemory`] if memory runs out, in place of any other result.
 ///
 /// # Examples
 /// ```

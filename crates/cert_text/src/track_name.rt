@@ -1,13 +1,13 @@
-//! The tracks of a certificate.
+//! The tracks of a certificate of events.
 
-/// A track of a certificate: a kind of events that it lists.
+/// A track of a certificate of events: it lists the events of two kinds.
 #[derive(Clone, Copy, PartialEq, Eq)]
 pub enum TrackName {
-    /// The track of high and low waters, or of a current's maximum floods and ebbs.
+    /// The track of high and low waters or, for a current, of the highs and lows of its speed.
     Turn,
-    /// The track of a current's slacks, before flood and before ebb.
+    /// The track of a current's slack waters, where a flood or an ebb begins.
     Slack,
-    /// The track of the minutes at which the level crosses the mark.
+    /// The track of the minutes after which the level has risen past the mark or fallen to it.
     Mark,
 }
 
@@ -16,7 +16,7 @@ impl TrackName {
     ghost use Rattle.cert_text.specs.Tracks.{track_word};
     ghost use Rattle.cert_text.specs.Lines.{heading_of};
 
-    /// Returns the track's word in headings: `turn`, `slack` or `mark`.
+    /// Returns the word for this track in its heading: `turn`, `slack` or `mark`.
     #[tactic(auto, unfolding(crate::specs::Tracks::track_word))]
     pub fn word(self) -> &'static str
         ensures text { result.now ≡ track_word self }
@@ -29,7 +29,7 @@ impl TrackName {
         }
     }
 
-    /// Returns the line before the track's cells, such as `track turn`.
+    /// Returns the line before this track's cells, such as `track turn`, without its LF.
     #[tactic(auto, unfolding(crate::specs::Tracks::track_word, crate::specs::Lines::heading_of))]
     pub fn heading(self) -> &'static str
         ensures { result.now ≡ heading_of self }

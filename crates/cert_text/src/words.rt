@@ -1,4 +1,4 @@
-//! Kinds of events with their tracks and words.
+//! The tracks of the kinds of events, and their words in a certificate.
 
 ghost use Rattle.std.specs.Prelude.{◌≡◌, ◌≤◌, length};
 ghost use Rattle.cert_text.specs.Tracks.{track_of};
@@ -8,9 +8,9 @@ ghost use Rattle.cert_text.specs.Workings.LineReading.{first_kind, second_kind};
 use crate::track_name::TrackName;
 use curve_law::Kind;
 
-/// Returns the track that has events of `kind`.
+/// Returns the track that lists events of `kind`.
 ///
-/// The program doesn't call it.
+/// The program doesn't call this function.
 pub fn track_of(kind: Kind) -> TrackName
     ensures { result ≡ track_of kind }
 {
@@ -21,7 +21,7 @@ pub fn track_of(kind: Kind) -> TrackName
     }
 }
 
-/// Returns the prefix of an event's line, up to its level, such as `t low `.
+/// Returns the beginning of the line of an event of `kind`, up to its level, such as `t low `.
 #[tactic(auto, unfolding(crate::specs::Tracks::kind_word))]
 pub(crate) fn prefix_of(kind: Kind) -> &'static str
     ensures text { result.now ≡ prefix_of kind }
@@ -37,8 +37,8 @@ pub(crate) fn prefix_of(kind: Kind) -> &'static str
     }
 }
 
-/// Returns the first kind of the events of `track`: a high water, the beginning of flood or a rise
-/// through the mark.
+/// Returns the first of the two kinds of events that `track` lists: highs, beginnings of floods, or
+/// rises past the mark.
 pub(crate) fn first_kind(track: TrackName) -> Kind
     ensures { result ≡ first_kind track }
 {
@@ -49,8 +49,8 @@ pub(crate) fn first_kind(track: TrackName) -> Kind
     }
 }
 
-/// Returns the second kind of the events of `track`: a low water, the beginning of ebb or a fall through
-/// the mark.
+/// Returns the second of the two kinds of events that `track` lists: lows, beginnings of ebbs, or
+/// falls to the mark.
 pub(crate) fn second_kind(track: TrackName) -> Kind
     ensures { result ≡ second_kind track }
 {

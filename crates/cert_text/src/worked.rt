@@ -6,15 +6,16 @@ ghost use Rattle.cert_text.specs.Lines.{certificate_text, joined};
 ghost use Rattle.cert_text.specs.Readings.{certificate_of};
 ghost use Rattle.cert_text.specs.Worked.{pier, pier_lines, narrows, narrows_lines, pier_with, changes};
 
-/// Proves the texts of two example certificates: one with a single track, and one with all three tracks
-/// and a mark.
+/// Proves the texts of two example certificates: `pier` has one track and no mark, and `narrows`
+/// has all three tracks and a mark.
 pub fn worked_texts()
     ensures pier { certificate_text pier ≡ joined pier_lines }
     ensures narrows { certificate_text narrows ≡ joined narrows_lines }
 {}
 
-/// Proves the results of reading a whole text, and texts in which a line is changed, the last lines are
-/// missing or further lines are added: the certificate, or the line of the fault.
+/// Proves that the text of the example certificate `pier` reads as this certificate, and which line
+/// is reported for texts that are none: with one line changed, no bytes at all, without the last
+/// line, with a last line that has no LF, and with another line after the last one.
 pub fn worked_readings()
     ensures pier { certificate_of (joined pier_lines) ≡ Ok pier }
     ensures changed { map (λ c. certificate_of (pier_with c)) changes ≡ map (λ c. Err (CertFault.NotACertificate c.at)) changes }

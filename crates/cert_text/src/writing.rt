@@ -1,4 +1,4 @@
-//! Certificates written as text.
+//! Writing certificates as text.
 
 ghost use Rattle.std.specs.Prelude.{◌≡◌, ◌++◌, [], ◌∷◌, All, IfOk, IfSome, OnOk};
 ghost use Rattle.cert_text.specs.Certificates.{IsCertificate, IsCellOf};
@@ -24,14 +24,17 @@ use curve_law::{Cell, Cells};
 use decimal_text::{Bytes, Text};
 use std::alloc::{AllocError, Global};
 
-/// Appends `text` to `out`.
+/// Appends the bytes of `text` to `out`.
+///
+/// # Errors
+/// [`AllocError`] if memory runs out.
 pub fn push_text(out: &mut Vec<u8>, text: &str) -> Result<(), AllocError>
     ensures { OnOk result (out.new.items ≡ out.old.items ++ text.now) }
 {
     out.extend_from_slice(text.as_bytes())
 }
 
-/// Appends the line of the station `name`.
+/// Appends the line of the station `name`, such as `station Pier`, with its LF.
 #[tactic(auto, unfolding(crate::specs::Lines::station_line_of))]
 fn push_station(out: &mut Vec<u8>, name: &Text) -> Result<(), AllocError>
     ensures { OnOk result (out.new.items ≡ out.old.items ++ ended (station_line_of name.now)) }
@@ -41,8 +44,12 @@ fn push_station(out: &mut Vec<u8>, name: &Text) -> Result<(), AllocError>
     push_text(out, "\n")
 }
 
-/// Appends the line of the station `name` and the lines of its span, the minutes from `begin` up to but
-/// not including `end`; both are since 1970-01-01T00:00Z, in the years 1 to 9999.
+/// Appends three lines to `out`: the station's `name`, and the first minute `begin` and the end
+/// `end` of the span, the minute after its last. Both count from 1970-01-01T00:00Z and are in the
+/// years 1 to 9999.
+///
+/// # Errors
+/// [`AllocError`] if memory runs out.
 pub fn push_station_lines(
     out: &mut Vec<u8>,
     name: &Text,
@@ -62,7 +69,8 @@ pub fn push_station_lines(
     push_text(out, line.as_str())
 }
 
-/// Appends the first five lines of `cert`.
+/// Appends the first five lines of `cert`: title, station, first minute and end of the span, and
+/// mark.
 fn push_head(out: &mut Vec<u8>, cert: &Certificate) -> Result<(), AllocError>
     requires { IsCertificate cert.now }
     ensures { OnOk result (out.new.items ≡ out.old.items ++ joined (head_lines_of cert.now)) }
@@ -76,7 +84,7 @@ fn push_head(out: &mut Vec<u8>, cert: &Certificate) -> Result<(), AllocError>
     push_text(out, line.as_str())
 }
 
-/// Appends the heading of `track` and the lines of its `cells`.
+/// Appends the heading of `track` and a line for each of `cells`.
 fn push_track(out: &mut Vec<u8>, track: TrackName, cells: &[Cell]) -> Result<(), AllocError>
     requires { All (IsCellOf track) cells.now }
     ensures { OnOk result (out.new.items ≡ out.old.items ++ joined (track_lines_of track cells.now)) }
@@ -92,7 +100,7 @@ fn push_track(out: &mut Vec<u8>, track: TrackName, cells: &[Cell]) -> Result<(),
     Ok(())
 }
 
-/// Appends `track` if it is present.
+/// Appends the heading of `track` and a line for each of `cells` if the track is present.
 fn push_track_if_there(
     out: &mut Vec<u8>,
     track: TrackName,
@@ -107,7 +115,11 @@ fn push_track_if_there(
     }
 }
 
-/// Returns the text of `cert`; the fields of `cert` are in the ranges that [`Certificate`] lists.
+/// Returns the text of `cert`, of which the fields must be in the ranges that [`Certificate`]
+/// lists.
+///
+/// # Errors
+/// [`AllocError`] if memory runs out.
 ///
 /// # Examples
 /// ```
