@@ -1,4 +1,4 @@
--- The lines of a certificate of a highest water spell it, and no others do.
+-- The lines of a certificate of a highest water spell it, and no other lines do.
 use Rattle.std.proofs.Common.{◌≡◌, ℕ, List, [], ◌∷◌, refl, ap, ◌∙◌}
 use Rattle.std.specs.List.{AllByRecursion}
 use Rattle.std.proofs.lemmas.List.Elements.{recursion_from_All, All-from_recursion}

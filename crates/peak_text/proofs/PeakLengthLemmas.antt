@@ -1,4 +1,4 @@
--- The length of the text of a certificate of a highest water.
+-- The length in bytes of the text of a certificate of a highest water.
 use Rattle.std.proofs.Common.{◌≡◌, ℕ, ◌+◌, ◌*◌, ◌<◌, ◌≤◌, ltb, List, [], ◌∷◌, codes, length, ℤ, inl, inr, refl, length-append, lit<, arith}
 use Rattle.std.specs.Prelude.{decimal}
 use Rattle.std.specs.Fmt.{signed_decimal}
@@ -34,7 +34,7 @@ minutes_short n low high = elim (cases_Bool (ltb n 10)) [
   | inr more ↦ omega (arith, length-decimal-le 4 n (lit< tt) (omega arith) (omega arith), ltb-false n 10 more)
 ]
 
--- the length of a cell's line with its LF
+-- the line of a cell with its LF has at most 2 bytes for each minute of the cell
 cell_short : (c : PeakCell) → IsPeakCell c → length (peak_cell_line_of c) + 1 ≤ 2 * minutes_of c
 unfolding peak_cell_line_of
 cell_short (Under n) h = omega (arith, length-append (codes "u ") (decimal n), minutes_short n h.0 h.1)

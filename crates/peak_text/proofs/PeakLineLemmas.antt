@@ -1,5 +1,5 @@
--- The meaning that is read of a line of a highest water is what the line spells, no other line spells it,
--- and none has an LF.
+-- What is read from a line of a certificate of a highest water is what the line spells, any line
+-- that spells it reads so, and no line contains an LF.
 use Rattle.std.proofs.Common.{◌≡◌, ℕ, ◌≤◌, true, false, cond, List, [], ◌∷◌, ◌++◌, codes, Some, None, ℤ, refl, sym, subst, lit<, lit≤, arith}
 use Rattle.std.specs.Prelude.{decimal, option_and_then}
 use Rattle.std.specs.Fmt.{signed_decimal}

@@ -1,4 +1,4 @@
--- Accepted cells are within their ranges.
+-- The cells of an accepted certificate of a highest water are in the ranges of their lines.
 use Rattle.std.proofs.Common.{◌≡◌, ℕ, suc, ◌==◌, ℤ, pos, ◌+ℤ◌, List, [], ◌∷◌, All}
 use Rattle.std.proofs.lemmas.Bool.Decides.{Decides-eqb}
 use Rattle.std.proofs.lemmas.List.Elements.{All-nil, All-cons}
@@ -33,7 +33,8 @@ cells-range c at value a number (cell ∷ cells) ok =
     (cell-range c at value a number cell parts.0)
     (cells-range c at value (a +ℤ pos (minutes_of cell)) (suc number) cells parts.1)
 
--- accepted cells have the minutes of the span, whatever the curve is
+-- if a claimed highest water is accepted, its cells have as many minutes as the span, and each cell
+-- under it has 2 to 1,024 minutes, whatever the curve is
 pub verdict-cells : (c : CurveSpec) (a : ℤ) (n : ℕ) (peak : Peak) → peak_verdict c a n peak ≡ Accepted
     → (all_minutes peak.cells ≡ n) × All IsPeakCell peak.cells
 unfolding peak_verdict

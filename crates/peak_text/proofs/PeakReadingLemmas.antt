@@ -1,5 +1,5 @@
--- Reading bytes returns the certificate of a highest water whose text they are, or the line of the first
--- fault.
+-- Reading bytes returns the certificate of a highest water that they are the text of, or the first
+-- line with which no certificate goes on.
 use Rattle.std.proofs.Common.{◌≡◌, ℕ, ◌+◌, List, [], ◌∷◌, ◌++◌, codes, Result, Ok, Err, ℤ, pos, refl, sym, ap, ◌∙◌, subst, lit<}
 use Rattle.std.specs.Prelude.{IfOk, IsErrAnd}
 use Rattle.std.specs.Fmt.{signed_decimal}
@@ -126,7 +126,8 @@ peak_taken c (t ∷ s ∷ b ∷ e ∷ a ∷ v ∷ lines) h =
       ) refl,
     )
 
--- the certificate of its parts
+-- if each line of a certificate of a highest water reads as its value, one position after the
+-- other, the whole reads as the certificate with these values
 pub peak_by : (old o p q r s t new : Place) (station name : List ℕ) (begin end minute value : ℤ) (cells : List PeakCell)
     → line_of (is_word peak_title) old ≡ Ok (tt, o) → line_of station_of o ≡ Ok (name, p)
     → line_of (moment_after (codes "begin ")) p ≡ Ok (begin, q) → line_of (moment_after (codes "end ")) q ≡ Ok (end, r)
@@ -191,7 +192,8 @@ pub peak_of-text : (c : PeakCertificate) → IsPeakCertificate c → peak_of (pe
 unfolding peak_of
 peak_of-text c h = ap with_fault (by_line.text_reads SpellsPeak peak_part reader c (peak_text c) (text_of-itself c h))
 
--- the result of reading part by part, with the faults of this crate
+-- a certificate that is the result of reading line by line, unless memory ran out, is the result
+-- `peak_of`
 pub given_whole : (bytes : List ℕ) (c : PeakCertificate)
     → EqualsUnlessNoMemory reading_is_out_of_memory (read_by peak_part bytes) (Ok c)
     → EqualsUnlessNoMemory is_out_of_memory (peak_of bytes) (Ok c)
@@ -210,7 +212,7 @@ pub reported_fault : (result : Result PeakCertificate PeakFault) (fault : Readin
 reported_fault (Ok c) fault h = absurd h
 reported_fault (Err own) fault h = ap Err (sym h)
 
--- the result of reading follows the grammar
+-- a result that is `peak_of`, unless memory ran out, follows the grammar
 pub reads_given : (bytes : List ℕ) (result : Result PeakCertificate PeakFault)
     → EqualsUnlessNoMemory is_out_of_memory (peak_of bytes) result → ReadsPeak bytes result
 reads_given bytes (Ok c) h = subst (ReadsPeak bytes) h (reads-peak_of bytes)

@@ -1,5 +1,5 @@
--- The certificate of a highest water that a text is, as a function of its bytes; it is proved to follow
--- the grammar (this project).
+-- The certificate of a highest water that bytes are the text of, read line by line with parts
+-- (readers of some lines); it is proved to follow the grammar (this project).
 use Rattle.std.specs.Prelude.{ℕ, List, Result, Ok, Err, Bool, true, false, codes}
 use Rattle.cert_text.specs.declared.fault.CertFault.{CertFault as ReadingFault}
 use Rattle.cert_text.specs.declared.fault.CertFault.TheVariants as reading
@@ -13,14 +13,16 @@ use Rattle.peak_text.specs.declared.fault.PeakFault.TheVariants.{NoMemory, NotAC
 use Rattle.peak_text.specs.PeakTexts.{peak_title}
 use Rattle.peak_text.specs.Workings.PeakLineReading.{value_of, cell_of}
 
--- the part of the cells, with a line for each, and the last line
+-- a part (a reader of some lines) for the cells, one on each line, and the last line, `done`, after
+-- which no byte may follow
 abbrev pub cells_part : Part (List PeakCell)
 cells_part = do
   cells ← items_of cell_of
   last ← last_part
   returned cells
 
--- the part of a whole certificate of a highest water
+-- a part (a reader of some lines) for a whole certificate of a highest water, up to the end of the
+-- text
 abbrev pub peak_part : Part PeakCertificate
 peak_part = do
   title ← line_of (is_word peak_title)
@@ -37,22 +39,23 @@ peak_part = do
     peak = record { at = at; value = value; cells = cells };
   })
 
--- the fault of reading part by part as a fault of this crate
+-- the fault of this crate for a fault of reading line by line: that memory ran out, or the same
+-- line
 abbrev pub fault_of : ReadingFault → PeakFault
 fault_of reading.NoMemory = NoMemory
 fault_of (reading.NotACertificate line) = NotACertificate line
 
--- the result of reading part by part with a fault of this crate
+-- the result of reading line by line, with a fault of this crate in place of its fault
 abbrev pub with_fault : {C : Type 0} → Result C ReadingFault → Result C PeakFault
 with_fault (Ok decoded) = Ok decoded
 with_fault (Err fault) = Err (fault_of fault)
 
--- the certificate of a highest water that the bytes are the text of or, if there is none, the line of
--- the fault, counted from 1
+-- `peak_of bytes`: the certificate of a highest water that `bytes` are the text of, or else the
+-- number, counted from 1, of the first line with which no such certificate goes on
 unfoldable pub peak_of : List ℕ → Result PeakCertificate PeakFault
 peak_of bytes = with_fault (read_by peak_part bytes)
 
--- a fault is that memory ran out
+-- true if the fault is that memory ran out
 abbrev pub is_out_of_memory : PeakFault → Bool
 is_out_of_memory NoMemory = true
 is_out_of_memory (NotACertificate line) = false

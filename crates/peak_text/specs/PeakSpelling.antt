@@ -1,5 +1,5 @@
--- The grammar of certificates of a highest water: the lines that spell one, and the line at which bytes
--- stop being one (this project).
+-- The grammar of certificates of a highest water: which lines spell a certificate, and at which
+-- line bytes stop following the grammar (this project). A line is without its LF.
 use Rattle.std.specs.Prelude.{◌≡◌, ℕ, ◌≤◌, ℤ, List, [], ◌∷◌, ◌++◌, Result, Ok, Err, codes, decimal}
 use Rattle.std.specs.Fmt.{signed_decimal}
 use Rattle.cert_text.specs.Spelling.{SpellsStation, SpellsMoment}
@@ -14,22 +14,26 @@ use Rattle.peak_text.specs.PeakTexts.{IsPeakValue}
 
 -- ---- the lines of a certificate
 
--- a line spells the value of a highest water: `value ` and the number, below 10^37 in size
+-- `SpellsValue value line`: `line` is `value ` and the value of a highest water, a whole number
+-- below 10^37 in size. Its unit is 10^-21 of the reference station's unit, times 4,147,200,000 (the
+-- total weight of a blend).
 abbrev pub SpellsValue : ℤ → List ℕ → Type 0
 SpellsValue value line = IsPeakValue value × (line ≡ codes "value " ++ signed_decimal value)
 
--- a line spells a cell: `u ` and a number of minutes from 2 to 1,024, or `m` for a single minute
+-- `SpellsPeakCell cell line`: `line` is `u ` and a number of minutes from 2 to 1,024, for a cell
+-- that is under the highest water, or `m`, for a cell of one minute
 abbrev pub SpellsPeakCell : PeakCell → List ℕ → Type 0
 SpellsPeakCell (Under n) line = (2 ≤ n) × (n ≤ MOST_MINUTES) × (line ≡ codes "u " ++ decimal n)
 SpellsPeakCell Single line = line ≡ codes "m"
 
--- lines spell the cells, one each, with the last line, `done`, after them
+-- `SpellsPeakCells cells lines`: `lines` are a line for each cell and then the last line, `done`
 abbrev pub SpellsPeakCells : List PeakCell → List (List ℕ) → Type 0
 SpellsPeakCells cells [] = ⊥
 SpellsPeakCells [] (line ∷ lines) = (line ≡ codes "done") × (lines ≡ [])
 SpellsPeakCells (cell ∷ cells) (line ∷ lines) = SpellsPeakCell cell line × SpellsPeakCells cells lines
 
--- the lines, without their LF, spell the certificate
+-- `SpellsPeak c lines`: `lines`, without their LF, are all lines of the certificate `c` of a
+-- highest water
 abbrev pub SpellsPeak : PeakCertificate → List (List ℕ) → Type 0
 SpellsPeak c (title ∷ station ∷ begin ∷ end ∷ at ∷ value ∷ cells) =
     (title ≡ codes "peak certificate 1") × SpellsStation c.station station
@@ -44,23 +48,30 @@ SpellsPeak c [] = ⊥
 
 -- ---- the text of a certificate, and the line at which bytes stop being one
 
--- the bytes are the text of the certificate
+-- `IsPeakTextOf c bytes`: `bytes` are the text of the certificate `c` of a highest water: its
+-- lines, each with its LF, and nothing more
 abbrev pub IsPeakTextOf : PeakCertificate → List ℕ → Type 0
 IsPeakTextOf c bytes = IsTextBy SpellsPeak c bytes
 
--- the bytes aren't the text of a certificate of a highest water, and this is the line, counted from 1,
--- of their first fault
+-- `IsPeakFaultLine bytes line`: `line` is the least number such that `bytes` have fewer than `line`
+-- lines ended by LF, or no certificate of a highest water begins with the first `line` of them. It
+-- says nothing of whether `bytes` are the text of one; if they are, `line` is one past the last
+-- line.
 abbrev pub IsPeakFaultLine : List ℕ → ℕ → Type 0
 IsPeakFaultLine bytes line = IsFaultBy SpellsPeak bytes line
 
 -- ---- the result of reading
 
--- a fault of reading is right; nothing is said if memory ran out
+-- `RefusesPeak bytes fault`: the fault of reading `bytes` is right: if it names a line, `bytes` are
+-- the text of no certificate of a highest water, and this is the first line such that none begins
+-- with the lines up to it; the fault that memory ran out is always right
 abbrev pub RefusesPeak : List ℕ → PeakFault → Type 0
 RefusesPeak bytes NoMemory = Unit {0}
 RefusesPeak bytes (NotACertificate line) = RefusedBy SpellsPeak bytes line
 
--- the result of reading is right: the certificate of the text, or the line of its first fault
+-- `ReadsPeak bytes result`: the result of reading `bytes` is right: the certificate of a highest
+-- water that they are the text of; or, if there is none, the first line such that no certificate
+-- begins with the lines up to it; or that memory ran out
 abbrev pub ReadsPeak : List ℕ → Result PeakCertificate PeakFault → Type 0
 ReadsPeak bytes (Ok c) = IsPeakTextOf c bytes
 ReadsPeak bytes (Err fault) = RefusesPeak bytes fault

@@ -1,14 +1,16 @@
--- The line that reports the verdict on a certificate of a highest water (this project).
+-- The line that reports the verdict on a claimed highest water, `Accepted` or `Rejected` with a
+-- reason (this project).
 use Rattle.std.specs.Prelude.{ℕ, List, ◌++◌, codes, decimal}
 use Rattle.std.specs.Fmt.{signed_decimal}
 use Rattle.highest_water.specs.declared.verdict.PeakVerdict.{PeakVerdict}
 use Rattle.highest_water.specs.declared.verdict.PeakVerdict.TheVariants.{WrongLength, Outside, NotUnder, WrongValue, Above, Accepted}
 
--- the line that rejects a cell, by its number, counted from 1, and what is wrong with it
+-- `cell_line cell what`: the line that rejects the cell with this number, counted from 1, ending
+-- with `what`, which has the reason and the LF
 abbrev pub cell_line : ℕ → List ℕ → List ℕ
 cell_line cell what = codes "Rejected: cell " ++ decimal cell ++ what
 
--- the line of a verdict on a claimed highest water, with its LF
+-- the line, with its LF, for the verdict of a check of a claimed highest water
 unfoldable pub verdict_line : PeakVerdict → List ℕ
 verdict_line (WrongLength covered wanted) =
     (codes "Rejected: cells cover " ++ signed_decimal covered) ++ (codes " of " ++ signed_decimal wanted ++ codes " minutes\n")

@@ -1,12 +1,13 @@
--- A certificate of a highest water with its text, and the faults of changed lines (this project).
+-- An example certificate of a highest water with its text, and wrong lines with the number of the
+-- line that is reported (this project).
 use Rattle.std.specs.Prelude.{ℕ, ◌-◌, pos, List, [], ◌∷◌, ◌++◌, codes, replicate, slice_set}
 use Rattle.cert_text.specs.Texts.{joined}
 use Rattle.cert_text.specs.Worked.{Change, change}
 use Rattle.peak_text.specs.declared.certificate.PeakCertificate.{PeakCertificate}
 use Rattle.highest_water.specs.declared.peak_cell.PeakCell.TheVariants.{Under, Single}
 
--- a certificate of 64 minutes at Pier from 2000-01-10T00:00Z on, the first of which is the highest, at
--- one foot
+-- a certificate of the highest water at the station Pier in the 64 minutes from 2000-01-10T00:00Z:
+-- it is in the first minute, with a value of one foot (4,147,200,000 times 10^21)
 abbrev pub pier : PeakCertificate
 pier = record {
   station = codes "Pier";
@@ -19,7 +20,7 @@ pier = record {
   };
 }
 
--- the lines of the text of the certificate `pier`
+-- the lines, without LF, of the text of the certificate `pier`
 abbrev pub pier_lines : List (List ℕ)
 pier_lines =
     codes "peak certificate 1" ∷ codes "station Pier" ∷ codes "begin 2000-01-10T00:00Z" ∷ codes "end 2000-01-10T01:04Z"
@@ -28,11 +29,13 @@ pier_lines =
     ∷ codes "u 8" ∷ codes "u 16"
     ∷ codes "done" ∷ [])
 
--- Pier's text with a change
+-- the text of the certificate `pier` with one line changed
 abbrev pub pier_with : Change → List ℕ
 pier_with c = joined (slice_set pier_lines (c.line - 1) c.text)
 
--- changes of each line; the first makes the title another kind of certificate's
+-- changes of the text of the certificate `pier` after which it is no text of a certificate of a
+-- highest water, each with the number of the line that reading then reports. The first makes the
+-- title of a certificate of events.
 abbrev pub changes : List Change
 changes =
     change 1 (codes "tide certificate 2") 1
@@ -56,6 +59,6 @@ changes =
     ∷ change 31 (codes "Done") 31
     ∷ []
 
--- a certificate with a value of the most digits, 37
+-- a certificate with a value of 37 digits, the most, and no cells
 abbrev pub widest : PeakCertificate
 widest = record pier { peak = record { at = pos 15791040; value = pos 9999999999999999999999999999999999999; cells = [] } }

@@ -10,9 +10,9 @@ pub enum PeakFault {
     /// Memory ran out while the certificate was read.
     #[error("no memory for the certificate")]
     NoMemory,
-    /// The bytes aren't the text of a certificate of a highest water. `line`, counted from 1, is the
-    /// first line such that no certificate of a highest water begins with the lines up to and including
-    /// it.
+    /// The bytes aren't the text of a certificate of a highest water. `line`, counted from 1, is
+    /// the first line such that no such certificate begins with the lines up to and including it;
+    /// it is one past the last line if the bytes end too early.
     #[error("line {line} is of no certificate")]
     NotACertificate { line: u32 },
 }

@@ -1,9 +1,10 @@
 //! The text of a certificate of a highest water, read and written.
 //!
-//! A [`PeakCertificate`] names a station and a span, and has the span's highest water with the cells
-//! that show it. [`write_peak`] returns the only text of a certificate, and [`read_peak`] returns the
-//! certificate of a text or the line of its first fault. [`verdict_line`] returns the line that reports
-//! the verdict of a check. `specs/PeakSpelling.antt` is the grammar.
+//! A [`PeakCertificate`] names a station and a span of minutes, and has the highest water in the
+//! span with the cells (consecutive minutes) that show it. [`write_peak`] returns the only text of
+//! a certificate. [`read_peak`] returns the certificate of a text, or the first line such that no
+//! certificate begins with the lines up to it. [`verdict_line`] returns the line that reports the
+//! result of checking a certificate. `specs/PeakSpelling.antt` is the grammar.
 #![tactic(auto)]
 
 mod certificate;

@@ -1,4 +1,4 @@
-//! The lines of a certificate of a highest water, read.
+//! Reading the lines of a certificate of a highest water.
 
 ghost use Rattle.std.specs.Prelude.{◌≡◌};
 ghost use Rattle.peak_text.specs.Workings.PeakLineReading.{value_of, under_for, under_of, cell_of};
@@ -7,15 +7,15 @@ use cert_text::{after, parse_number, size_of};
 use curve_law::MOST_MINUTES;
 use highest_water::PeakCell;
 
-/// The greatest number of digits of a value.
+/// The greatest number of decimal digits of a value.
 const VALUE_DIGITS: usize = 37;
 
-/// The greatest number of digits of a cell's minutes.
+/// The greatest number of decimal digits of the minutes of a cell.
 const MINUTE_DIGITS: usize = 4;
 
-/// Returns the highest water's value in `line`, which is `value ` and a whole number of at most 37
-/// digits. Returns `None` if `line` isn't such a line. The value is in 10^-21 of the reference's unit,
-/// times 4,147,200,000 (the total weight of a blend).
+/// Returns the value of the highest water in `line`, which is `value ` and a whole number of at
+/// most 37 digits, without its LF. Its unit is 10^-21 of the reference station's unit, times
+/// 4,147,200,000 (the total weight of a blend). Returns `None` if `line` isn't such a line.
 #[tactic(auto, unfolding(crate::specs::Workings::PeakLineReading::value_of))]
 pub fn value_of(line: &[u8]) -> Option<i128>
     ensures { result ≡ value_of line.now }
@@ -23,7 +23,8 @@ pub fn value_of(line: &[u8]) -> Option<i128>
     parse_number(after(b"value ".as_slice(), line)?, VALUE_DIGITS)
 }
 
-/// Returns a cell of `minutes` that is under the highest water, or `None` unless they are 2 to 1,024.
+/// Returns a cell of `minutes` that is under the highest water, or `None` unless `minutes` is from
+/// 2 to 1,024.
 fn under_for(minutes: u128) -> Option<PeakCell>
     ensures { result ≡ under_for minutes }
 {
@@ -34,7 +35,8 @@ fn under_for(minutes: u128) -> Option<PeakCell>
     }
 }
 
-/// Reads the line of a cell that is under the highest water, or returns `None` if `line` isn't one.
+/// Returns the cell under the highest water in a line such as `u 1024`, or `None` if `line` isn't
+/// such a line.
 #[tactic(auto, unfolding(crate::specs::Workings::PeakLineReading::under_of))]
 fn under_of(line: &[u8]) -> Option<PeakCell>
     ensures { result ≡ under_of line.now }
@@ -42,8 +44,8 @@ fn under_of(line: &[u8]) -> Option<PeakCell>
     under_for(size_of(after(b"u ".as_slice(), line)?, MINUTE_DIGITS)?)
 }
 
-/// Returns the cell in `line`, which is `m` for a single minute, or `u ` and a number of minutes from 2
-/// to 1,024 for a cell under the highest water. Returns `None` if `line` isn't such a line.
+/// Returns the cell in `line`, which is without its LF: one minute for `m`, or 2 to 1,024 minutes
+/// under the highest water for a line such as `u 1024`. Returns `None` if `line` isn't such a line.
 #[tactic(auto, unfolding(crate::specs::Workings::PeakLineReading::cell_of))]
 pub fn cell_of(line: &[u8]) -> Option<PeakCell>
     ensures { result ≡ cell_of line.now }

@@ -1,4 +1,4 @@
-//! Certificates of a highest water read from text.
+//! Reading certificates of a highest water from text.
 
 ghost use Rattle.std.specs.Prelude.{◌≤◌, length, IfOk};
 ghost use Rattle.decimal_text.specs.Expected.{EqualsUnlessNoMemory};
@@ -17,7 +17,7 @@ use decimal_text::Text;
 use highest_water::{Peak, PeakCell, PeakCells};
 use std::alloc::Global;
 
-/// The lines of a certificate's cells.
+/// How the line of a cell is read.
 struct CellForm;
 
 impl ItemForm for CellForm {
@@ -32,14 +32,15 @@ impl ItemForm for CellForm {
     }
 }
 
-/// Reads the line of the value.
+/// Reads the next line of `lines`, such as `value -12`, and returns the value. Fails with the
+/// number of this line if it is another line or is missing.
 fn read_value(lines: &mut LineCursor<'_>) -> Result<i128, CertFault>
     ensures { TakesExactly (line_of value_of) lines.old lines.new result }
 {
     value_of(lines.next()?).ok_or(lines.fault())
 }
 
-/// Reads the cells and the last line.
+/// Reads the cells, one on each line, and the last line, `done`, after which no byte may follow.
 fn read_cells(alloc: Global, lines: &mut LineCursor<'_>) -> Result<PeakCells, CertFault>
     ensures { Takes cells_part lines.old lines.new result }
 {
@@ -48,7 +49,7 @@ fn read_cells(alloc: Global, lines: &mut LineCursor<'_>) -> Result<PeakCells, Ce
     Ok(PeakCells::from_vec(cells))
 }
 
-/// Reads a whole certificate.
+/// Reads a whole certificate, up to the end of the text.
 #[tactic(auto, unfolding(crate::specs::PeakTexts::peak_title))]
 fn read_lines(alloc: Global, lines: &mut LineCursor<'_>) -> Result<PeakCertificate, CertFault>
     ensures { Takes peak_part lines.old lines.new result }
@@ -68,14 +69,14 @@ fn read_lines(alloc: Global, lines: &mut LineCursor<'_>) -> Result<PeakCertifica
     })
 }
 
-/// Returns the certificate of a highest water with the text `bytes`, at most 400,000,000 bytes. It takes
-/// linear time.
+/// Returns the certificate of a highest water that `bytes` are the text of; there are at most
+/// 400,000,000 of them. It takes linear time.
 ///
 /// # Errors
-/// [`PeakFault::NotACertificate`] exactly if `bytes` isn't the text of such a certificate. Its line is
-/// the first, counted from 1, such that no certificate begins with the lines up to and including it,
-/// each with its LF. Bytes after the last LF aren't a line. If the bytes end too early, the line is one
-/// past the last. If memory runs out, [`PeakFault::NoMemory`] is returned in place of any other result.
+/// [`PeakFault::NotACertificate`] if `bytes` aren't the text of a certificate of a highest water.
+/// Its line is the first, counted from 1, such that no certificate begins with the lines up to and
+/// including it. Bytes after the last LF aren't a line; if the bytes end too early, the line is one
+/// past the last. [`PeakFault::NoMemory`] if memory runs out, in place of any other result.
 pub fn read_peak(alloc: Global, bytes: &[u8]) -> Result<PeakCertificate, PeakFault>
     requires { length bytes.now ≤ MOST_BYTES }
     ensures exact { EqualsUnlessNoMemory is_out_of_memory (peak_of bytes.now) result }

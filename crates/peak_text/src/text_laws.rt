@@ -1,4 +1,4 @@
-//! Consequences of the grammar of certificates of a highest water.
+//! Theorems about the texts of certificates of a highest water.
 
 ghost use Rattle.std.specs.Prelude.{◌≡◌, ◌≢◌, ℕ, ◌+◌, ◌*◌, ◌<◌, ◌≤◌, List, length, Ok, Err};
 ghost use Rattle.peak_text.specs.declared.certificate.PeakCertificate.{PeakCertificate};
@@ -8,8 +8,10 @@ ghost use Rattle.peak_text.specs.PeakTexts.{IsPeakCertificate, peak_lines_of, pe
 ghost use Rattle.peak_text.specs.PeakSpelling.{SpellsPeak, IsPeakTextOf, IsPeakFaultLine, ReadsPeak};
 ghost use Rattle.peak_text.specs.PeakReadings.{peak_of};
 
-/// Proves that each certificate of a highest water with all fields in their ranges has exactly one
-/// text, that no other certificate has a text, and that each text belongs to at most one certificate.
+/// Proves that each certificate of a highest water with fields in the ranges that
+/// [`PeakCertificate`](crate::PeakCertificate) lists has exactly one text, both as lines and as
+/// bytes. Also proves that no other certificate has a text, and that two different certificates
+/// never have the same text.
 pub fn peak_certificates_have_one_text()
     ensures lines { (c : PeakCertificate) → IsPeakCertificate c → SpellsPeak c (peak_lines_of c) }
     ensures only_lines { (c : PeakCertificate) (lines : List (List ℕ)) →
@@ -21,10 +23,9 @@ pub fn peak_certificates_have_one_text()
         IsPeakTextOf c bytes → IsPeakTextOf d bytes → c ≡ d }
 {}
 
-/// Proves that in the text of a certificate of a highest water the lines of the cells have at most two
-/// bytes for each minute of the cells, and the rest of the text has at most 545 bytes. If the cells
-/// have at most 5,270,400 minutes, as in the longest span, the text has fewer than 10,542,000 bytes,
-/// and so can be read again.
+/// Proves that the text of a certificate of a highest water has at most 545 bytes and 2 for each
+/// minute of its cells. If the cells have at most 5,270,400 minutes, as in the longest span, the
+/// text has fewer than 10,542,000 bytes, and so is short enough to be read.
 pub fn peak_texts_are_short()
     ensures length_bound { (c : PeakCertificate) → IsPeakCertificate c →
         length (peak_text c) ≤ 545 + 2 * all_minutes c.peak.cells }
@@ -32,9 +33,11 @@ pub fn peak_texts_are_short()
         length (peak_text c) < 10542000 }
 {}
 
-/// Proves that reading line by line follows the grammar for all bytes, unless memory runs out. Reading
-/// returns the certificate of a highest water that the bytes are the text of or, if there is none, the
-/// line of the fault. The text of a certificate reads as this certificate.
+/// Proves that `peak_of`, the result of reading bytes line by line with enough memory, follows the
+/// grammar for all bytes: it is the certificate of a highest water with this text or, if there is
+/// none, the first line such that no certificate begins with the lines up to it. It is never the
+/// fault that memory ran out. The text of a certificate reads as this certificate, and for given
+/// bytes at most one number meets `IsPeakFaultLine`.
 pub fn peak_readings_go_by_the_grammar()
     ensures reads { (bytes : List ℕ) → ReadsPeak bytes (peak_of bytes) }
     ensures never_memory { (bytes : List ℕ) → peak_of bytes ≢ Err PeakFault.NoMemory }

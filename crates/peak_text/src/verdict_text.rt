@@ -1,4 +1,4 @@
-//! The line that reports a verdict.
+//! The line that reports the verdict on a claimed highest water.
 
 ghost use Rattle.std.specs.Prelude.{◌≡◌, ◌++◌, codes, IfOk, string_bytes};
 ghost use Rattle.std.specs.Fmt.{signed_decimal};
@@ -9,7 +9,10 @@ use highest_water::PeakVerdict;
 use std::alloc::{AllocError, Global};
 
 /// Returns the line that reports `verdict` on a claimed highest water, with its LF: `Accepted`, or
-/// `Rejected` and the first fault.
+/// `Rejected: ` and the first fault, such as `Rejected: cell 3 is above`.
+///
+/// # Errors
+/// [`AllocError`] if memory runs out.
 #[tactic(auto, unfolding(crate::specs::VerdictLines::verdict_line))]
 pub fn verdict_line(alloc: Global, verdict: PeakVerdict) -> Result<Bytes, AllocError>
     ensures { IfOk result (λ line. line ≡ verdict_line verdict) }
@@ -25,7 +28,7 @@ pub fn verdict_line(alloc: Global, verdict: PeakVerdict) -> Result<Bytes, AllocE
     Ok(Bytes::from_vec(text.into_bytes()))
 }
 
-/// Returns the line for cells that have `covered` minutes instead of `wanted`.
+/// Returns the line for cells that have `covered` minutes in all instead of `wanted`.
 fn length_line(alloc: Global, covered: i64, wanted: i64) -> Result<String, AllocError>
     ensures { IfOk result (λ text. string_bytes text
         ≡ (codes "Rejected: cells cover " ++ signed_decimal covered) ++ (codes " of " ++ signed_decimal wanted ++ codes " minutes\n")) }
@@ -36,7 +39,7 @@ fn length_line(alloc: Global, covered: i64, wanted: i64) -> Result<String, Alloc
     Ok(text)
 }
 
-/// Returns the line for the cell with the number `cell`, counted from 1.
+/// Returns the line for the cell with the number `cell`, counted from 1, ending with `what`.
 fn cell_line(alloc: Global, cell: u32, what: &str) -> Result<String, AllocError>
     ensures { IfOk result (λ text. string_bytes text ≡ cell_line cell what.now) }
 {
@@ -45,7 +48,7 @@ fn cell_line(alloc: Global, cell: u32, what: &str) -> Result<String, AllocError>
     Ok(text)
 }
 
-/// Returns the line for a value `written` that isn't the `computed` one.
+/// Returns the line for a certificate's value `written` that isn't the `computed` one.
 fn value_line(alloc: Global, written: i128, computed: i128) -> Result<String, AllocError>
     ensures { IfOk result (λ text. string_bytes text
         ≡ (codes "Rejected: value " ++ signed_decimal written) ++ (codes ", computed " ++ signed_decimal computed ++ codes "\n")) }

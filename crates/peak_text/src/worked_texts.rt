@@ -1,4 +1,4 @@
-//! Certificates of a highest water worked out by hand.
+//! A certificate of a highest water worked out by hand.
 
 ghost use Rattle.std.specs.Prelude.{◌≡◌, ◌++◌, codes, map, take, Ok, Err};
 ghost use Rattle.cert_text.specs.Texts.{joined};
@@ -7,14 +7,16 @@ ghost use Rattle.peak_text.specs.PeakTexts.{peak_text};
 ghost use Rattle.peak_text.specs.PeakReadings.{peak_of};
 ghost use Rattle.peak_text.specs.Worked.{pier, pier_lines, pier_with, changes};
 
-/// Proves which text the example certificate `pier` has: its lines `pier_lines`, each with its LF.
+/// Proves the text of the example certificate `pier` of a highest water: the lines `pier_lines`,
+/// each with its LF.
 pub fn worked_peak_texts()
     ensures pier { peak_text pier ≡ joined pier_lines }
 {}
 
-/// Proves the results of reading the text of an example certificate, and texts in which one of its
-/// lines is changed, its last lines are missing, or further lines are added: the certificate, or the
-/// line of the fault, counted from 1.
+/// Proves that the text of the example certificate `pier` reads as this certificate, and which
+/// line, counted from 1, is reported for texts that are none: with one line changed, no bytes at
+/// all, without the last line, with a last line that has no LF, and with another line after the
+/// last one.
 pub fn worked_peak_readings()
     ensures pier { peak_of (joined pier_lines) ≡ Ok pier }
     ensures changed { map (λ c. peak_of (pier_with c)) changes ≡ map (λ c. Err (PeakFault.NotACertificate c.at)) changes }

@@ -1,4 +1,4 @@
-//! Certificates of a highest water written as text.
+//! Writing certificates of a highest water as text.
 
 ghost use Rattle.std.specs.Prelude.{◌≡◌, ◌++◌, map, IfOk, OnOk};
 ghost use Rattle.std.specs.Fmt.{signed_decimal};
@@ -23,7 +23,8 @@ use itoa::Buffer;
 use std::alloc::{AllocError, Global};
 use zone_time::write_moment;
 
-/// Appends the line of the highest water's minute `at`.
+/// Appends the line with the minute `at` of the highest water, counted from 1970-01-01T00:00Z, with
+/// its LF.
 #[tactic(auto, unfolding(crate::specs::PeakTexts::at_line_of))]
 fn push_at(out: &mut Vec<u8>, at: i64) -> Result<(), AllocError>
     requires { IsMoment at }
@@ -36,7 +37,7 @@ fn push_at(out: &mut Vec<u8>, at: i64) -> Result<(), AllocError>
     push_text(out, "\n")
 }
 
-/// Appends the line of `word` and `number`.
+/// Appends a line of `word` and `number` in decimal, with its LF.
 fn push_number(out: &mut Vec<u8>, word: &str, number: i128) -> Result<(), AllocError>
     ensures { OnOk result (out.new.items ≡ out.old.items ++ ended (word.now ++ signed_decimal number)) }
 {
@@ -46,7 +47,7 @@ fn push_number(out: &mut Vec<u8>, word: &str, number: i128) -> Result<(), AllocE
     push_text(out, "\n")
 }
 
-/// Appends the line of `cell`.
+/// Appends the line of `cell`, with its LF.
 #[tactic(auto, unfolding(crate::specs::PeakTexts::peak_cell_line_of))]
 fn push_cell(out: &mut Vec<u8>, cell: PeakCell) -> Result<(), AllocError>
     ensures { OnOk result (out.new.items ≡ out.old.items ++ ended (peak_cell_line_of cell)) }
@@ -57,7 +58,7 @@ fn push_cell(out: &mut Vec<u8>, cell: PeakCell) -> Result<(), AllocError>
     }
 }
 
-/// Appends the line of the highest water's value.
+/// Appends the line with the highest water's `value`, with its LF.
 #[tactic(auto, unfolding(crate::specs::PeakTexts::value_line_of))]
 fn push_value(out: &mut Vec<u8>, value: i128) -> Result<(), AllocError>
     ensures { OnOk result (out.new.items ≡ out.old.items ++ ended (value_line_of value)) }
@@ -65,7 +66,7 @@ fn push_value(out: &mut Vec<u8>, value: i128) -> Result<(), AllocError>
     push_number(out, "value ", value)
 }
 
-/// Appends the title.
+/// Appends the first line, the title, with its LF.
 #[tactic(auto, unfolding(crate::specs::PeakTexts::peak_title))]
 fn push_title(out: &mut Vec<u8>) -> Result<(), AllocError>
     ensures { OnOk result (out.new.items ≡ out.old.items ++ ended peak_title) }
@@ -73,7 +74,7 @@ fn push_title(out: &mut Vec<u8>) -> Result<(), AllocError>
     push_text(out, "peak certificate 1\n")
 }
 
-/// Appends the first six lines of `cert`.
+/// Appends the first six lines of `cert`, up to the value of the highest water.
 fn push_head(out: &mut Vec<u8>, cert: &PeakCertificate) -> Result<(), AllocError>
     requires { IsPeakCertificate cert.now }
     ensures { OnOk result (out.new.items ≡ out.old.items ++ joined (peak_head_lines_of cert.now)) }
@@ -84,7 +85,7 @@ fn push_head(out: &mut Vec<u8>, cert: &PeakCertificate) -> Result<(), AllocError
     push_value(out, cert.peak.value)
 }
 
-/// Appends the line of each cell.
+/// Appends a line for each of `cells`.
 fn push_cells(out: &mut Vec<u8>, cells: &[PeakCell]) -> Result<(), AllocError>
     ensures { OnOk result (out.new.items ≡ out.old.items ++ joined (map peak_cell_line_of cells.now)) }
 {
@@ -94,8 +95,11 @@ fn push_cells(out: &mut Vec<u8>, cells: &[PeakCell]) -> Result<(), AllocError>
     Ok(())
 }
 
-/// Returns the text of `cert`, a certificate of a highest water; all fields of `cert` are in the ranges
-/// that their comments give.
+/// Returns the text of `cert`, a certificate of a highest water of which the fields must be in the
+/// ranges that [`PeakCertificate`] lists.
+///
+/// # Errors
+/// [`AllocError`] if memory runs out.
 #[tactic(auto, unfolding(crate::specs::PeakTexts::peak_text, cert_text::specs::Lines::last_line))]
 pub fn write_peak(alloc: Global, cert: &PeakCertificate) -> Result<Bytes, AllocError>
     requires { IsPeakCertificate cert.now }
