@@ -1,4 +1,4 @@
--- The exit status and the line of each reason why there is no answer (this project).
+-- The exit status and the printed line for each reason why a request has no answer (this project).
 use Rattle.std.specs.Prelude.{ℕ, ℤ, pos, negsuc, int_le, ◌&&◌, if◌then◌else◌, Bool, true, false, List, [], ◌++◌, codes, decimal, slice_get}
 use Rattle.std.specs.Option.{option_map_or}
 use Rattle.std.specs.Fmt.{signed_decimal}
@@ -48,25 +48,27 @@ use Rattle.tide_fault.specs.declared.status.Status.TheVariants as status
 
 -- ---- statuses
 
--- the exit status for a command line or query that isn't a request, or if memory ran out while it was
--- read
+-- the exit status for a command line or query that isn't a request: `Words`, or `NoMemory` if
+-- memory ran out while it was read
 abbrev pub status_of_ask : AskFault → Status
 status_of_ask ask.NoMemory = status.NoMemory
 status_of_ask _ = status.Words
 
--- the exit status for a file of harmonic constants that isn't in its format, or if memory ran out while
--- it was read
+-- the exit status for a file of harmonic constants that isn't in its format: `FileRefused`, or
+-- `NoMemory` if memory ran out while it was read
 abbrev pub status_of_form : BookFault → Status
 status_of_form form.NoMemory = status.NoMemory
 status_of_form (form.At line why) = status.FileRefused
 
--- the exit status for a table of subordinate stations that isn't in its format, or if memory ran out
--- while it was read
+-- the exit status for a table of subordinate stations that isn't in its format: `FileRefused`, or
+-- `NoMemory` if memory ran out while it was read
 abbrev pub status_of_table : OffsetFault → Status
 status_of_table table.NoMemory = status.NoMemory
 status_of_table (table.At row why) = status.FileRefused
 
--- the exit status for a request that has no answer with the files that were read, or if memory ran out
+-- the exit status for a request that has no answer with the files that were read: `NoMemory` if
+-- memory ran out, `FileRefused` for a bad certificate or sample, `Limit` if a number is too large,
+-- and otherwise `Refused`
 abbrev pub status_of_refusal : Refusal → Status
 status_of_refusal NoMemory = status.NoMemory
 status_of_refusal (NotACertificate line) = status.FileRefused
@@ -77,7 +79,7 @@ status_of_refusal (SpanTooLong minutes) = status.Limit
 status_of_refusal (TooManyRows rows) = status.Limit
 status_of_refusal _ = status.Refused
 
--- the exit status of a run that ends with each fault
+-- the exit status of a run that ends with this fault
 abbrev pub status_of : Fault → Status
 status_of (Ask fault) = status_of_ask fault
 status_of (NoSheet word) = status.Refused
@@ -89,20 +91,20 @@ status_of (Refused refusal) = status_of_refusal refusal
 
 -- ---- lines
 
--- the word for each kind of file in the lines that report faults, such as `offsets`
+-- the word for a kind of file at the start of a line that reports a fault, such as `offsets`
 abbrev pub slot_name : Slot → List ℕ
 slot_name slots.File = codes "file"
 slot_name slots.Offsets = codes "offsets"
 slot_name slots.Zone = codes "zone"
 slot_name slots.Certificate = codes "certificate"
 
--- the start of a line about the argument, or the pair of a query, with the number `pair`, counted from
--- 1, and then `what`
+-- `pair_line pair what`: a line about one argument of a command line or pair of a query, by its
+-- number `pair`, counted from 1, and then `what`, which ends with the LF
 abbrev pub pair_line : ℕ → List ℕ → List ℕ
 pair_line pair what = codes "words: pair " ++ decimal pair ++ what
 
--- the line, with its LF, for a command line or query that isn't a request, or if memory ran out while
--- it was read
+-- the line, with its LF, for a command line or query that isn't a request, or if memory ran out
+-- while it was read
 unfoldable pub ask_line : AskFault → List ℕ
 ask_line ask.NoMemory = codes "no memory\n"
 ask_line ask.NoCommand = codes "words: no command\n"
@@ -113,56 +115,59 @@ ask_line (ask.RepeatedKey pair) = pair_line pair (codes " repeats a key\n")
 ask_line (ask.BadValue pair) = pair_line pair (codes " has a bad value\n")
 ask_line (ask.MissingKey key) = codes "words: " ++ name_of key ++ codes " is missing\n"
 
--- the line, with its LF, for the line of a harmonics file with the number `line`, which is bad for the
--- reason `why`; it ends with the reason's text and number
+-- `file_line line why`: the line, with its LF, for a harmonics file in which the line with the
+-- number `line`, counted from 1, is bad for the reason `why`; it ends with the reason's text and
+-- number
 abbrev pub file_line : ℕ → Why → List ℕ
 file_line line why =
     (codes "file: line " ++ decimal line ++ codes ": ") ++ text_of why ++ (codes " (" ++ decimal (fault_number why) ++ codes ")\n")
 
--- the line, with its LF, for a file of harmonic constants that isn't in its format, or if memory ran
--- out while it was read
+-- the line, with its LF, for a file of harmonic constants that isn't in its format, or if memory
+-- ran out while it was read
 unfoldable pub form_line : BookFault → List ℕ
 form_line form.NoMemory = codes "no memory\n"
 form_line (form.At line why) = file_line line why
 
--- the line, with its LF, for the row of a table of subordinate stations with the number `row`, which is
--- bad for the reason `why`; it ends with the reason's text and number
+-- `row_line row why`: the line, with its LF, for a table of subordinate stations in which the row
+-- with the number `row` (the header is row 1) is bad for the reason `why`; it ends with the
+-- reason's text and number
 abbrev pub row_line : ℕ → OffsetWhy → List ℕ
 row_line row why =
     (codes "offsets: row " ++ decimal row ++ codes ": ") ++ text_of_row why ++ (codes " (" ++ decimal (number_of_row why) ++ codes ")\n")
 
--- the line, with its LF, for a table of subordinate stations that isn't in its format, or if memory ran
--- out while it was read
+-- the line, with its LF, for a table of subordinate stations that isn't in its format, or if memory
+-- ran out while it was read
 unfoldable pub table_line : OffsetFault → List ℕ
 table_line table.NoMemory = codes "no memory\n"
 table_line (table.At row why) = row_line row why
 
--- the name of the reference station in the row with this index, counted from 0, or no bytes if there is
--- no such row
+-- `reference_at rows index`: the name of the reference station in the row of the table with this
+-- index, counted from 0, or no bytes if there is no such row
 abbrev pub reference_at : List TableRow → ℕ → List ℕ
 reference_at rows index = option_map_or (λ row. row.reference) (slice_get rows index) []
 
--- the line of `what` and then a name, with its LF
+-- `naming_line what name`: the line, with its LF, of `what` and then `name`
 abbrev pub naming_line : List ℕ → List ℕ → List ℕ
 naming_line what name = what ++ name ++ codes "\n"
 
--- the minute, counted from 1970-01-01T00:00Z, is in the years 1 to 9999
+-- `is_moment minute`: the minute, counted from 1970-01-01T00:00Z, is in the years 1 to 9999
 abbrev pub is_moment : ℤ → Bool
 is_moment minute = int_le (negsuc 1035593279) minute && int_le minute (pos 4223371679)
 
--- the text of a minute counted from 1970-01-01T00:00Z, such as `2000-01-10T00:00Z`; no bytes if it
--- isn't in the years 1 to 9999
+-- `minute_text minute`: the minute, counted from 1970-01-01T00:00Z, as text, such as
+-- `2000-01-10T00:00Z`; no bytes if it isn't in the years 1 to 9999
 abbrev pub minute_text : ℤ → List ℕ
 minute_text minute = if is_moment minute then moment_text minute else []
 
--- the line, with its LF, for a span outside the file's years: `first` is the first minute of these
--- years, and `last` the minute after their last
+-- `years_line first last`: the line, with its LF, for a span outside the years of the harmonics
+-- file. They are the minutes from `first` up to but not including `last`, counted from
+-- 1970-01-01T00:00Z.
 abbrev pub years_line : ℤ → ℤ → List ℕ
 years_line first last =
     codes "refused: out of years: file has " ++ minute_text first ++ codes " to " ++ minute_text last ++ codes "\n"
 
--- the line, with its LF, of a refusal; `rows` are the rows of the table of subordinate stations that
--- was read
+-- `refusal_line rows refusal`: the line, with its LF, that reports a refusal; `rows` are the rows
+-- of the table of subordinate stations that was read
 unfoldable pub refusal_line : List TableRow → Refusal → List ℕ
 refusal_line rows NoMemory = codes "no memory\n"
 refusal_line rows (NotACertificate line) = codes "certificate: line " ++ decimal line ++ codes "\n"
@@ -180,8 +185,8 @@ refusal_line rows MarkNotHere = codes "refused: mark not here\n"
 refusal_line rows LevelNotHere = codes "refused: level not here\n"
 refusal_line rows (TooManyRows count) = codes "limit: " ++ signed_decimal count ++ codes " rows\n"
 
--- the line, with its LF, of a fault; `rows` are the rows of the table of subordinate stations that was
--- read
+-- `line_of rows fault`: the line, with its LF, that reports a fault; `rows` are the rows of the
+-- table of subordinate stations that was read
 unfoldable pub line_of : List TableRow → Fault → List ℕ
 line_of rows (Ask fault) = ask_line fault
 line_of rows (NoSheet word) = naming_line (codes "refused: no sheet ") word
@@ -198,7 +203,7 @@ abbrev pub refusal_is_out_of_memory : Refusal → Bool
 refusal_is_out_of_memory NoMemory = true
 refusal_is_out_of_memory _ = false
 
--- true for the exit status of a run in which memory ran out
+-- true if the exit status is the one of a run in which memory ran out
 abbrev pub is_memory : Status → Bool
 is_memory status.NoMemory = true
 is_memory _ = false

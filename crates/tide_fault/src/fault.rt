@@ -1,4 +1,4 @@
-//! Faults: the reasons why a request has no answer.
+//! The reasons why a request has no answer.
 
 ghost use Rattle.std.specs.Prelude.{◌≡◌};
 ghost use Rattle.tide_fault.specs.Faults.{status_of, status_of_ask, status_of_form, status_of_table, status_of_refusal};
@@ -11,22 +11,23 @@ use harmonics_text::BookFault;
 use question::AskFault;
 use station_table::OffsetFault;
 
-/// The reason why a request has no answer. A run looks for them in the order of these variants.
+/// The reason why a request has no answer.
 #[derive(Drop)]
 pub enum Fault {
-    /// The command line or query isn't a request.
+    /// The command line or query isn't a request, or memory ran out while it was read.
     Ask(AskFault),
-    /// A report has no sheet named `word`.
+    /// The request names `word` as a sheet of a report, and there is no such sheet.
     NoSheet { word: Text },
-    /// A file has more bytes than the program reads.
+    /// A file of this kind has more bytes than the program reads.
     TooLong(Slot),
-    /// The file of harmonic constants has a bad line, or memory ran out.
+    /// The file of harmonic constants has a bad line, or memory ran out while it was read.
     Book(BookFault),
-    /// The table of subordinate stations has a bad row, or memory ran out.
+    /// The table of subordinate stations has a bad row, or memory ran out while it was read.
     Offsets(OffsetFault),
-    /// The time zone's file isn't a zone file, or the rule at its end contradicts its table of changes.
+    /// The time zone's file isn't a zone file, or the rule in its footer contradicts the last row
+    /// of its table of changes.
     BadZone,
-    /// The files were read, and the request has no answer with their contents.
+    /// The files were read, and the request has no answer with their contents, or memory ran out.
     Refused(Refusal),
 }
 
@@ -45,7 +46,7 @@ pub fn fault_status(fault: &Fault) -> Status
     }
 }
 
-/// Returns the exit status for a command line or query that isn't a request.
+/// Returns the exit status for a command line or query that isn't a request, or if memory ran out.
 fn ask_status(fault: AskFault) -> Status
     ensures { result ≡ status_of_ask fault }
 {
@@ -55,7 +56,8 @@ fn ask_status(fault: AskFault) -> Status
     }
 }
 
-/// Returns the exit status for a file of harmonic constants that can't be read as a book.
+/// Returns the exit status for a file of harmonic constants that isn't in its format, or if memory
+/// ran out.
 fn form_status(fault: BookFault) -> Status
     ensures { result ≡ status_of_form fault }
 {
@@ -65,7 +67,8 @@ fn form_status(fault: BookFault) -> Status
     }
 }
 
-/// Returns the exit status for a table of subordinate stations that can't be read.
+/// Returns the exit status for a table of subordinate stations that isn't in its format, or if
+/// memory ran out.
 fn table_status(fault: OffsetFault) -> Status
     ensures { result ≡ status_of_table fault }
 {

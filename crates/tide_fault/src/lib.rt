@@ -1,8 +1,8 @@
 //! Refusals and faults, with their lines and exit statuses.
 //!
-//! A [`Refusal`] is a reason why a request has no answer with the files that were read. A [`Fault`] is
-//! a refusal, or an error of the command line or of a file. [`fault_line`] returns the line that
-//! reports a fault, and [`fault_status`] the exit status; no other crate makes them.
+//! A [`Refusal`] is a reason why a request has no answer with the files that were read. A [`Fault`]
+//! is a refusal, or an error of the command line or of a file. [`fault_line`] returns the line that
+//! reports a fault, and [`fault_status`] the exit status of the program.
 #![tactic(auto)]
 
 mod fault;

@@ -30,9 +30,11 @@ use zone_time::write_moment;
 
 /// Returns the line that reports `fault`, with its LF. `table` is the table of subordinate stations
 /// that was read. For [`NoReference`](Refusal::NoReference) the line ends with the name of the
-/// reference station in the fault's row of `table`, or without a name if there is no such row. A minute
-/// of [`OutOfYears`](Refusal::OutOfYears) outside the years 1 to 9999 is left out. Fails only if memory
-/// runs out.
+/// reference station in the refusal's row of `table`, or without a name if there is no such row. A
+/// minute of [`OutOfYears`](Refusal::OutOfYears) outside the years 1 to 9999 is left out.
+///
+/// # Errors
+/// [`AllocError`] if memory runs out.
 pub fn fault_line(alloc: Global, fault: &Fault, table: &OffsetTable) -> Result<Bytes, AllocError>
     ensures { IfOk result (λ line. line ≡ line_of table.now fault.now) }
 {
@@ -55,7 +57,7 @@ fn fault_text(alloc: Global, fault: &Fault, table: &OffsetTable) -> Result<Strin
     }
 }
 
-/// Returns the line for a command line or query that isn't a request.
+/// Returns the line for a command line or query that isn't a request, or if memory ran out.
 #[tactic(auto, unfolding(crate::specs::Faults::ask_line))]
 fn ask_text(alloc: Global, fault: AskFault) -> Result<String, AllocError>
     ensures { IfOk result (λ text. string_bytes text ≡ ask_line fault) }
@@ -92,7 +94,8 @@ fn long_text(alloc: Global, slot: Slot) -> Result<String, AllocError>
     Ok(text)
 }
 
-/// Returns the line for a file of harmonic constants that can't be read as a book.
+/// Returns the line for a file of harmonic constants that isn't in its format, or if memory ran
+/// out.
 #[tactic(auto, unfolding(crate::specs::Faults::form_line))]
 fn form_text(alloc: Global, fault: BookFault) -> Result<String, AllocError>
     ensures { IfOk result (λ text. string_bytes text ≡ form_line fault) }
@@ -103,7 +106,8 @@ fn form_text(alloc: Global, fault: BookFault) -> Result<String, AllocError>
     }
 }
 
-/// Returns the line for a fault at `line` of a file of harmonic constants.
+/// Returns the line for a harmonics file of which `line`, counted from 1, is bad for the reason
+/// `why`.
 fn file_text(alloc: Global, line: u32, why: Why) -> Result<String, AllocError>
     ensures { IfOk result (λ text. string_bytes text ≡ file_line line why) }
 {
@@ -115,7 +119,8 @@ fn file_text(alloc: Global, line: u32, why: Why) -> Result<String, AllocError>
     Ok(text)
 }
 
-/// Returns the line for a table of subordinate stations that can't be read.
+/// Returns the line for a table of subordinate stations that isn't in its format, or if memory ran
+/// out.
 #[tactic(auto, unfolding(crate::specs::Faults::table_line))]
 fn table_text(alloc: Global, fault: OffsetFault) -> Result<String, AllocError>
     ensures { IfOk result (λ text. string_bytes text ≡ table_line fault) }
@@ -126,7 +131,8 @@ fn table_text(alloc: Global, fault: OffsetFault) -> Result<String, AllocError>
     }
 }
 
-/// Returns the line for a fault at `row` of a table of subordinate stations.
+/// Returns the line for a table of subordinate stations of which `row` (the header is row 1) is bad
+/// for the reason `why`.
 fn row_text(alloc: Global, row: u32, why: OffsetWhy) -> Result<String, AllocError>
     ensures { IfOk result (λ text. string_bytes text ≡ row_line row why) }
 {
@@ -165,7 +171,8 @@ fn refusal_text(alloc: Global, refusal: Refusal, table: &OffsetTable) -> Result<
     }
 }
 
-/// Returns the name of the reference station at index `row` of `table`, and no byte past its end.
+/// Returns the name of the reference station in the row of `table` with the index `row`, counted
+/// from 0, or an empty text if there is no such row.
 #[tactic(auto, using(crate::proofs::LineLemmas::no_reference))]
 fn reference_at(table: &OffsetTable, row: u32) -> &str
     ensures { result.now ≡ reference_at table.now row }
@@ -178,7 +185,7 @@ fn reference_at(table: &OffsetTable, row: u32) -> &str
     }
 }
 
-/// Returns the line of a refusal that names `name`, after the words `what`.
+/// Returns the line of `what` and then `name`, with its LF.
 fn named_text(alloc: Global, what: &str, name: &str) -> Result<String, AllocError>
     ensures { IfOk result (λ text. string_bytes text ≡ naming_line what.now name.now) }
 {
@@ -188,8 +195,8 @@ fn named_text(alloc: Global, what: &str, name: &str) -> Result<String, AllocErro
     Ok(text)
 }
 
-/// Returns the line for a span outside the file's years, which are the minutes from `first` up to but
-/// not including `last`, both since 1970-01-01T00:00Z.
+/// Returns the line for a span outside the years of the harmonics file, which are the minutes from
+/// `first` up to but not including `last`, counted from 1970-01-01T00:00Z.
 fn years_text(alloc: Global, first: i64, last: i64) -> Result<String, AllocError>
     ensures { IfOk result (λ text. string_bytes text ≡ years_line first last) }
 {
@@ -203,7 +210,8 @@ fn years_text(alloc: Global, first: i64, last: i64) -> Result<String, AllocError
     Ok(text)
 }
 
-/// Returns the text of `minute`, and no byte outside the years 1 to 9999.
+/// Returns `minute`, counted from 1970-01-01T00:00Z, as text such as `2000-01-10T00:00Z`, or an
+/// empty text if it isn't in the years 1 to 9999.
 fn minute_text(minute: i64) -> ArrayString<20>
     ensures { result.bytes ≡ minute_text minute }
 {
@@ -214,7 +222,7 @@ fn minute_text(minute: i64) -> ArrayString<20>
     text
 }
 
-/// Returns true if `minute` is in the years 1 to 9999.
+/// Returns true if `minute`, counted from 1970-01-01T00:00Z, is in the years 1 to 9999.
 fn is_moment(minute: i64) -> bool
     ensures { result ≡ is_moment minute }
 {

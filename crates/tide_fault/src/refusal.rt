@@ -1,4 +1,4 @@
-//! Refusals of a request over files that were read.
+//! The reasons why a request has no answer with the files that were read.
 
 use cert_text::CertFault;
 use harmonics_text::Why;
@@ -6,46 +6,49 @@ use station_curve::CurveFault;
 use station_table::FindFault;
 use std::alloc::AllocError;
 
-/// The reason why a request has no answer with the harmonics file and the table of subordinate stations
-/// that were read.
+/// The reason why a request has no answer with the files that were read.
 #[derive(Clone, Copy, Debug)]
 pub enum Refusal {
     /// Memory ran out while the request was answered.
     NoMemory,
-    /// The bytes aren't a certificate. `line`, counted from 1, is the first line such that no
-    /// certificate begins with the lines up to and including it.
+    /// The bytes to be checked aren't a certificate. `line`, counted from 1, is the first line such
+    /// that no certificate begins with the lines up to and including it; it is one past the last
+    /// line if the bytes end too early.
     NotACertificate { line: u32 },
-    /// The file made from a seed can't be read as a book: `line`, counted from 1, is the first line that
-    /// breaks a rule, and `why` the first reason.
+    /// The harmonics file that the program made from the request's seed isn't in the format of such
+    /// files: `line`, counted from 1, is the first line that breaks a rule, and `why` the first
+    /// reason.
     BadSample { line: u32, why: Why },
-    /// Neither the harmonics file nor the table has a station with the requested name.
+    /// Neither the harmonics file nor the table of subordinate stations has a station with the
+    /// requested name.
     NoStation,
-    /// The harmonics file doesn't have the reference station of the table's row with the index `row`,
-    /// counted from 0.
+    /// The harmonics file doesn't have the reference station that is named in the row with the
+    /// index `row`, counted from 0, of the table of subordinate stations.
     NoReference { row: u32 },
     /// The station is a hydraulic current: its speed is the square root of the sum of its
     /// constituents.
     Hydraulic,
-    /// The span's end is before its beginning.
+    /// The end of the requested span is before its beginning.
     BackwardSpan,
     /// The request is for the highest water of a span without any minute.
     EmptySpan,
-    /// The span isn't within the file's years. `first` is the first minute of these years and `last` the
-    /// minute after their last, both in minutes since 1970-01-01T00:00Z.
+    /// The span isn't within the years of the harmonics file, which are the minutes from `first` up
+    /// to but not including `last`, counted from 1970-01-01T00:00Z.
     OutOfYears { first: i64, last: i64 },
-    /// In a year the sizes of the amplitudes of the station's constituents sum to more than
-    /// 1,000,000,000 millionths of its unit; `year` is the first such year.
+    /// In a year the absolute amplitudes of the station's constituents sum to more than
+    /// 1,000,000,000 millionths of the station's unit; `year` is the first such year.
     TooLarge { year: i32 },
-    /// In a year the sum, over the station's constituents, of the size of the amplitude in millionths
-    /// of the station's unit times the size of the speed in ten-millionths of a degree an hour exceeds
-    /// 10^17; `year` is the first such year.
+    /// In a year the sum over the station's constituents of the absolute amplitude, in millionths
+    /// of the station's unit, times the absolute speed, in ten-millionths of a degree an hour,
+    /// exceeds 10^17; `year` is the first such year.
     TooSteep { year: i32 },
     /// The span has `minutes` minutes, more than the 5,270,400 that the program answers.
     SpanTooLong { minutes: i64 },
-    /// The request has a mark, and the station's high and low waters have different offsets.
+    /// The request has a mark (a level at which crossings are listed), and the station's high and
+    /// low waters have different offsets from its reference station.
     MarkNotHere,
-    /// The request is for levels at any minute, and the station's high and low waters have different
-    /// offsets.
+    /// The request is for levels at given minutes, and the station's high and low waters have
+    /// different offsets from its reference station.
     LevelNotHere,
     /// The request is for `rows` heights, more than the 100,000 that the program lists.
     TooManyRows { rows: i64 },

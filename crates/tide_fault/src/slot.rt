@@ -1,13 +1,13 @@
-//! The files of a request.
+//! The kinds of files that a request names.
 
 ghost use Rattle.std.specs.Prelude.{◌≡◌, ◌≤◌, length};
 
-/// The kind of a named file: what the program reads the file as.
+/// The kind of a file that a request names: what the program reads the file as.
 #[derive(Clone, Copy, PartialEq, Eq)]
 pub enum Slot {
     /// The file of harmonic constants.
     File,
-    /// The file of the table of subordinate stations.
+    /// The file with the table of subordinate stations.
     Offsets,
     /// The file of a time zone.
     Zone,

@@ -1,23 +1,23 @@
-//! The exit statuses.
+//! The exit statuses of the program.
 
 ghost use Rattle.std.specs.Prelude.{◌≡◌};
 
-/// The result of a run. The number of this status is the exit status of the program.
+/// The result of a run of the program; its number is the exit status.
 #[derive(Clone, Copy, Debug, PartialEq, Eq)]
 pub enum Status {
     /// The whole answer was written.
     Done,
     /// The certificate was checked, and isn't valid.
     Rejected,
-    /// The command line isn't a request.
+    /// The command line or query isn't a request.
     Words,
-    /// A file is too long, or isn't in its format.
+    /// A file is too long or isn't in its format.
     FileRefused,
     /// The request has no answer with the files that were read.
     Refused,
-    /// A number exceeds its bound, such as the length of the span.
+    /// A number exceeds a limit of the program, such as the number of minutes in the span.
     Limit,
-    /// A file or the clock couldn't be read.
+    /// Reading a file or the clock failed.
     ReadFault,
     /// Writing the answer failed.
     WriteFault,

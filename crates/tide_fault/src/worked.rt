@@ -9,10 +9,10 @@ ghost use Rattle.tide_fault.specs.declared.slot.Slot.{Slot};
 ghost use Rattle.tide_fault.specs.declared.status.Status.{Status};
 ghost use Rattle.tide_fault.specs.Faults.{line_of, status_of};
 
-/// Proves the lines that report some faults: a missing command, a missing key, a certificate that is
-/// too long, a span without a minute, and a sheet that doesn't exist. The table of subordinate stations
-/// is empty. Also proves the exit statuses of a repeated key, of a table that is too long, and of a
-/// request that ran out of memory.
+/// Proves the lines that report some faults, with an empty table of subordinate stations: no
+/// command, a missing key, a certificate that is too long, a span without a minute, and a sheet
+/// that doesn't exist. Also proves the exit statuses for a repeated key, for a table that is too
+/// long, and for a request that ran out of memory.
 #[tactic(auto, unfolding(crate::specs::Faults::line_of, crate::specs::Faults::ask_line, crate::specs::Faults::refusal_line))]
 pub fn worked_lines()
     ensures no_command { line_of [] (Fault.Ask AskFault.NoCommand) ≡ codes "words: no command\n" }
