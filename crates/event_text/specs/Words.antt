@@ -1,4 +1,5 @@
--- The names of events (the tide and current tables of the National Ocean Service; XTide's event names).
+-- The names of events (the tide and current tables of the National Ocean Service; XTide's event
+-- names).
 use Rattle.std.specs.Prelude.{ℕ, ℤ, pos, Bool, true, false, not, int_lt, if◌then◌else◌, List, codes}
 use Rattle.harmonics_book.specs.declared.book.Units.{Units}
 use Rattle.harmonics_book.specs.declared.book.Units.TheVariants.{Feet, Meters, Knots, KnotsSquared}
@@ -31,27 +32,29 @@ is_slack FloodBegins = true
 is_slack EbbBegins = true
 is_slack _ = false
 
--- events of this kind have a name in this unit: all kinds in knots (a current), all but slack water in
--- feet and meters (a tide), and none in knots squared (a hydraulic current)
+-- `has_word units kind`: events of this kind have a name in this unit: each kind in knots (a
+-- current), each kind except slack water in feet and meters (a tide), and none in knots squared (a
+-- hydraulic current)
 abbrev pub has_word : Units → Kind → Bool
 has_word Feet kind = not (is_slack kind)
 has_word Meters kind = not (is_slack kind)
 has_word Knots kind = true
 has_word KnotsSquared kind = false
 
--- the name of a high with this level, in millionths of the unit: in knots the greatest flood if the
--- level is above 0, else the least ebb; in other units a high tide
+-- `high_word_of units level`: the name of a high at `level`, in millionths of the unit: in knots
+-- the greatest flood if the level is above 0, else the least ebb; in other units a high tide
 abbrev pub high_word_of : Units → ℤ → EventWord
 high_word_of Knots level = if int_lt (pos 0) level then MaxFlood else MinEbb
 high_word_of _ level = HighTide
 
--- the name of a low with this level, in millionths of the unit: in knots the least flood if the level
--- is above 0, else the greatest ebb; in other units a low tide
+-- `low_word_of units level`: the name of a low at `level`, in millionths of the unit: in knots the
+-- least flood if the level is above 0, else the greatest ebb; in other units a low tide
 abbrev pub low_word_of : Units → ℤ → EventWord
 low_word_of Knots level = if int_lt (pos 0) level then MinFlood else MaxEbb
 low_word_of _ level = LowTide
 
--- the name of an event of this unit and kind, with a level in millionths of the unit
+-- `word_of units kind level`: the name of an event of this kind at `level`, in millionths of the
+-- unit; in knots the name of a high or low depends on whether the level is above 0
 abbrev pub word_of : Units → Kind → ℤ → EventWord
 word_of units High level = high_word_of units level
 word_of units Low level = low_word_of units level

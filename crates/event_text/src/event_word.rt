@@ -1,8 +1,8 @@
 //! The names of events.
 
-/// The name of an event in tide and current tables: high and low tides; a current's greatest (`Max`)
-/// and least (`Min`) floods and ebbs, and its slack waters before a flood or an ebb; and rises past a
-/// mark and falls to it.
+/// The name of an event in tide and current tables: high and low tides; a current's greatest
+/// (`Max`) and least (`Min`) floods and ebbs, and its slack waters before a flood or an ebb; and
+/// rises past a mark (a level at which crossings are listed) and falls to it.
 #[derive(Clone, Copy, PartialEq, Eq)]
 pub enum EventWord {
     HighTide,
@@ -21,7 +21,8 @@ impl EventWord {
     ghost use Rattle.std.specs.Prelude.{◌≡◌, ◌≤◌, length};
     ghost use Rattle.event_text.specs.Words.{word_text};
 
-    /// Returns the text that is printed for the name, such as `Low Tide`: ASCII of at most 18 bytes.
+    /// Returns the text that is printed for this name, such as `Low Tide`: ASCII of at most 18
+    /// bytes.
     pub fn text(self) -> &'static str
         ensures text { result.now ≡ word_text self }
         ensures length_bound { length result.now ≤ 18 }

@@ -1,4 +1,4 @@
-//! Levels as text.
+//! Writing levels as text.
 
 ghost use Rattle.std.specs.Prelude.{◌≡◌, ◌+◌, ◌≤◌, [], ◌++◌, length, replicate};
 ghost use Rattle.arrayvec.specs.ArrayString.{array_string_len};
@@ -8,8 +8,9 @@ ghost use Rattle.event_text.specs.Lines.{level_text, padded};
 use arrayvec::ArrayString;
 use decimal_text::{rounded, write};
 
-/// Writes `level` to the empty `out` as a decimal with two places, such as `-1.00`. `level` is in
-/// millionths of the unit, and is rounded to hundredths, a half away from 0. Nothing is allocated.
+/// Writes `level`, in millionths of its unit, to `out`, which must be empty, as a decimal with two
+/// places, such as `-1.00`. It is rounded to hundredths, a half away from 0; a level that rounds to
+/// 0 has no sign. Nothing is allocated.
 pub fn write_level(level: i64, out: &mut ArrayString<24>)
     requires { out.old.bytes ≡ [] }
     ensures { out.new.bytes ≡ level_text level }
@@ -17,8 +18,8 @@ pub fn write_level(level: i64, out: &mut ArrayString<24>)
     write(hundredths(level), 2, out);
 }
 
-/// Appends `level`, in millionths of its unit, rounded to hundredths of the unit and right-aligned in 9
-/// columns.
+/// Appends `level`, in millionths of its unit, to `out` as a decimal with two places, right-aligned
+/// in 9 columns. It is rounded to hundredths, a half away from 0.
 pub(crate) fn push_level(level: i64, out: &mut ArrayString<96>)
     requires { array_string_len out.old + 24 ≤ 96 }
     ensures bytes { out.new.bytes ≡ out.old.bytes ++ padded 9 (level_text level) }

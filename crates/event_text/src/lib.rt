@@ -1,9 +1,9 @@
 //! The printed text of an event: its name, its level and its line.
 //!
 //! [`word`] returns the name of an event in tide tables, [`unit_text`] the name of a unit, and
-//! [`write_level`] writes a level in hundredths. [`event_line`] writes the line of an event, with its
-//! local time, level, unit and name, and [`height_line`] the line of a level without an event. No
-//! function here allocates. `specs/` has the names and the layout.
+//! [`write_level`] writes a level in hundredths. [`event_line`] writes the line of an event, with
+//! its local time, level, unit and name, and [`height_line`] the line of a level without an event.
+//! No function here allocates. `specs/` has the names and the layout.
 #![tactic(auto)]
 
 mod event_word;

@@ -1,4 +1,4 @@
-//! The lines of a listing: of an event, or of a level.
+//! Writing the lines of a listing: of an event, or of a level.
 
 ghost use Rattle.std.specs.Prelude.{◌≡◌, ◌≤◌, [], IsTrue};
 ghost use Rattle.arrayvec.specs.ArrayString.{array_string_len};
@@ -14,11 +14,11 @@ use curve_law::Event;
 use harmonics_book::Units;
 use zone_time::{Local, write_local};
 
-/// Writes the line of `event` at the time `local`, such as
-/// `2000-01-10 06:00 UTC      -1.00 feet  Low Tide`, with its LF, to the empty `out`. The event's level
-/// is in millionths of the unit, and the name at the end is the one that [`word`] returns. The local
-/// year is from 0 to 9999, and an offset from -1560 to 1560 minutes. Events of this kind have a name in
-/// this unit. Nothing is allocated.
+/// Writes the line of `event` at the local time `local`, such as
+/// `2000-01-10 06:00 UTC      -1.00 feet  Low Tide`, with its LF, to `out`, which must be empty.
+/// The event's level is in millionths of the unit. The local year is from 0 to 9999, and an offset
+/// is from -1560 to 1560 minutes. The event's kind must have a name in the unit: none has one in
+/// knots squared, and slack water has one only in knots. Nothing is allocated.
 #[tactic(auto, unfolding(crate::specs::Lines::event_line_of))]
 pub fn event_line(local: &Local, event: &Event, units: Units, out: &mut ArrayString<96>)
     requires local { IsLocal local.now }
@@ -32,9 +32,10 @@ pub fn event_line(local: &Local, event: &Event, units: Units, out: &mut ArrayStr
     out.push('\n');
 }
 
-/// Writes the line of `level` at the time `local`, such as `2000-01-10 06:00 UTC      -1.00 feet`,
-/// without an LF, to the empty `out`. `level` is in millionths of the unit. The local year is from 0 to
-/// 9999, and an offset from -1560 to 1560 minutes. Nothing is allocated.
+/// Writes the line of `level`, in millionths of the unit, at the local time `local`, such as
+/// `2000-01-10 06:00 UTC      -1.00 feet`, without an LF, to `out`, which must be empty. The line
+/// has at most 57 bytes. The local year is from 0 to 9999, and an offset is from -1560 to 1560
+/// minutes. Nothing is allocated.
 #[tactic(auto, unfolding(crate::specs::Lines::height_line_of))]
 pub fn height_line(local: &Local, level: i64, units: Units, out: &mut ArrayString<96>)
     requires local { IsLocal local.now }

@@ -7,9 +7,10 @@ use crate::event_word::EventWord;
 use curve_law::Kind;
 use harmonics_book::Units;
 
-/// Returns the name in tide and current tables of an event of this `kind` at `level`, in millionths of
-/// the unit. In knots, a high or low is a flood if `level` is above 0, and otherwise an ebb. Events
-/// have no names in knots squared (a hydraulic current), and slack water has one only in knots.
+/// Returns the name in tide and current tables of an event of this `kind` at `level`, in millionths
+/// of the unit. In knots a high or low is a flood if `level` is above 0, and otherwise an ebb.
+/// `kind` must have a name in the unit: none has one in knots squared (a hydraulic current), and
+/// slack water has one only in knots.
 pub fn word(units: Units, kind: Kind, level: i64) -> EventWord
     requires { IsTrue (has_word units kind) }
     ensures { result ≡ word_of units kind level }

@@ -6,10 +6,11 @@ ghost use Rattle.curve_law.specs.declared.kind.Kind.{Kind};
 ghost use Rattle.zone_time.specs.declared.local.Label.{Label};
 ghost use Rattle.event_text.specs.Lines.{level_text, padded, event_line_of, height_line_of};
 
-/// Proves the printed lines of a low and a high tide in feet (levels of -1 and about 1), of a low tide
-/// in a zone five hours behind universal time, and of a current's slack water in knots, and the line of
-/// a level of 1 meter without an event. Minutes are counted from 1970-01-01T00:00Z (15791400 is
-/// 2000-01-10T06:00Z), levels are in millionths of the unit, and `negsuc n` is -(n + 1).
+/// Proves the printed lines of a low and a high tide in feet (levels of -1 and about 1), of a low
+/// tide in a zone five hours behind universal time, and of a current's slack water in knots, and
+/// the line of a level of 1 meter without an event. Minutes are counted from 1970-01-01T00:00Z
+/// (15791400 is 2000-01-10T06:00Z), levels are in millionths of the unit, and `negsuc n` is
+/// -(n + 1).
 pub fn worked_lines()
     ensures low_tide { event_line_of (record { minute = pos 15791400; label = Label.Utc })
         (record { minute = pos 15791400; kind = Kind.Low; level = negsuc 999999 }) Units.Feet
@@ -27,9 +28,9 @@ pub fn worked_lines()
         ≡ codes "2000-01-10 00:00 UTC       1.00 meters" }
 {}
 
-/// Proves the texts of levels, which are in millionths of the unit, as decimals with two places: a half
-/// is rounded away from 0, and a level that rounds to 0 has no sign. Also proves that a text of 6 bytes
-/// is right-aligned in 9 columns. `negsuc n` is -(n + 1).
+/// Proves the texts of levels, which are in millionths of the unit, as decimals with two places: a
+/// half is rounded away from 0, and a level that rounds to 0 has no sign. Also proves that a text
+/// of 6 bytes is right-aligned in 9 columns. `negsuc n` is -(n + 1).
 pub fn worked_levels()
     ensures half { level_text (pos 5000) ≡ codes "0.01" }
     ensures below_half { level_text (pos 4999) ≡ codes "0.00" }

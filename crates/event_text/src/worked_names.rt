@@ -7,9 +7,10 @@ ghost use Rattle.event_text.specs.declared.event_word.EventWord.{EventWord};
 ghost use Rattle.event_text.specs.Words.{has_word, word_of, word_text};
 
 /// Proves the printed names of events at levels above, below and at 0, in millionths of the unit
-/// (`negsuc 0` is -1). In knots a level above 0 is a flood and any other an ebb; in feet and meters the
-/// name doesn't depend on the level. Also proves that slack water has no name in meters, that a
-/// crossing of a mark has one, and that a high in knots squared has none.
+/// (`negsuc 0` is -1). In knots a high or low above 0 is a flood and any other an ebb; in feet and
+/// meters the name doesn't depend on the level. Also proves that slack water has no name in meters,
+/// that a crossing of a mark (a level at which crossings are listed) has one, and that a high in
+/// knots squared has none.
 pub fn worked_words()
     ensures flood { word_text (word_of Units.Knots Kind.High (pos 1)) ≡ codes "Max Flood" }
     ensures still { word_text (word_of Units.Knots Kind.High (pos 0)) ≡ codes "Min Ebb" }
