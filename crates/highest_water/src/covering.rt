@@ -10,10 +10,13 @@ use curve_law::{Curve, Point};
 use std::alloc::{AllocError, Global};
 
 /// Returns the cells showing that `value`, at minute `at`, is the highest water of the minutes from
-/// `begin` up to but not including `end`, both minutes of `curve`. Before the call the curve may have
-/// been evaluated at most 2^62 times; the call evaluates it at most once per cell, plus once.
+/// `begin` up to but not including `end`, both minutes of `curve`. Before the call the curve may
+/// have been evaluated at most 2^62 times; the call evaluates it at most once per cell, plus once.
 ///
-/// The program doesn't call it: the search for the highest water makes these cells.
+/// The program doesn't call this function: the search for the highest water makes these cells.
+///
+/// # Errors
+/// [`AllocError`] if memory runs out.
 pub fn peak_cover<C: Curve>(
     alloc: Global,
     curve: &mut C,
@@ -36,8 +39,14 @@ pub fn peak_cover<C: Curve>(
     cells_by(alloc, curve, begin, end, Point { minute: at, value })
 }
 
-/// Returns the cells that halving makes for the point `highest`, which need not be the highest water,
-/// of the minutes from `begin` up to but not including `end`, both minutes of `curve`.
+/// Returns the cells of the minutes from `begin` up to but not including `end`, both minutes of
+/// `curve`, that halving blocks of 1,024 minutes makes: each is a single minute, or is shown to be
+/// under the point `highest`, which need not be the highest water. Before the call the curve may
+/// have been evaluated at most 2^62 + 2^60 times; the call evaluates it at most once per cell, plus
+/// once.
+///
+/// # Errors
+/// [`AllocError`] if memory runs out.
 pub fn cells_by<C: Curve>(
     alloc: Global,
     curve: &mut C,

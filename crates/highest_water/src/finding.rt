@@ -14,10 +14,14 @@ use curve_law::{Curve, Point, point_at};
 use interval_search::block_end;
 use std::alloc::{AllocError, Global};
 
-/// Returns the highest water of the minutes from `begin` up to but not including `end`, both minutes of
-/// `curve`: the first minute with the greatest value, this value, and the cells that show it. There are
-/// 1 to 5,270,400 minutes. Before the call the curve may have been evaluated at most 2^62 times; the
-/// call evaluates it at most twice per minute and once per cell of the result, plus twice.
+/// Returns the highest water of the minutes from `begin` up to but not including `end`, both
+/// minutes of `curve`: the first minute with the greatest value, this value, and the cells that
+/// show it. There are 1 to 5,270,400 minutes. Before the call the curve may have been evaluated at
+/// most 2^62 times; the call evaluates it at most twice per minute and once per cell of the result,
+/// plus twice.
+///
+/// # Errors
+/// [`AllocError`] if memory runs out.
 pub fn find_peak<C: Curve>(
     alloc: Global,
     curve: &mut C,
