@@ -1,4 +1,5 @@
--- The cells of a span by the halving rule have the length of the span, and are accepted.
+-- The cells made by halving blocks of a span have as many minutes as the span, and the check
+-- accepts them.
 use Rattle.std.proofs.Common.{◌≡◌, ℕ, suc, ◌+◌, ◌≤◌, ◌==◌, ℤ, pos, ◌+ℤ◌, true, nat_le, List, [], ◌∷◌, ◌++◌, length, map, refl, subst, arith}
 use Rattle.std.proofs.lemmas.Bool.Decides.{nat_tests, Decides-int_eq, Decides-eqb}
 use Rattle.std.proofs.lemmas.Int.{ints}
@@ -15,6 +16,7 @@ use Rattle.curve_law.specs.Verdicts.{cell_verdict, cells_verdict, verdict}
 use Rattle.curve_law.proofs.CoverLemmas.{by_test, AreWhole, pieces-whole, pieces-few}
 use Rattle.curve_law.proofs.VerdictLemmas.{same_kind-refl}
 
+-- two lists of cells one after the other have the minutes of both
 pub all_minutes-append : (xs ys : List Cell) → all_minutes (xs ++ ys) ≡ all_minutes xs + all_minutes ys
 unfolding all_minutes
 all_minutes-append [] ys = omega arith
@@ -39,7 +41,7 @@ quiet-right : (c : CurveSpec) (a : ℤ) (n number : ℕ) → is_quiet c a n ≡ 
 unfolding cell_verdict
 quiet-right c a n number quiet = rw quiet refl
 
--- the cell of a piece that isn't halved has its minutes, and is accepted
+-- the cell of an interval that isn't halved has the interval's minutes, and its verdict is Accepted
 pub cell-right : (c : CurveSpec) (number : ℕ) (piece : Interval) → 1 ≤ piece.minutes
     → stays_whole (is_quiet c) piece.begin piece.minutes ≡ true
     → (minutes_of (cell_of c piece) ≡ piece.minutes) × (cell_verdict c piece.begin number (cell_of c piece) ≡ Accepted)
@@ -64,14 +66,16 @@ cover-right : (c : CurveSpec) (a : ℤ) (n : ℕ)
 unfolding cover
 cover-right c a n = cells-right c a (a +ℤ pos n) 1 (pieces_of (is_quiet c) a n) (pieces-whole (is_quiet c) a n)
 
+-- the cells made for a span by halving have as many minutes as the span
 pub cover-minutes : (c : CurveSpec) (a : ℤ) (n : ℕ) → all_minutes (cover c a n) ≡ n
 cover-minutes c a n = let all = (cover-right c a n).0 in omega (arith, ints)
 
+-- the cells made for a span by halving are at most as many as its minutes
 pub cover-few : (c : CurveSpec) (a : ℤ) (n : ℕ) → length (cover c a n) ≤ n
 unfolding cover
 cover-few c a n = simp length-map (pieces-few (is_quiet c) a n)
 
--- the cells of a span by the halving rule are accepted
+-- the cells made for a span by halving are accepted
 pub cover-accepted : (c : CurveSpec) (a : ℤ) (n : ℕ) → verdict c a n (cover c a n) ≡ Accepted
 unfolding verdict
 cover-accepted c a n =

@@ -1,4 +1,4 @@
--- A curve at other minutes has the same cells and verdicts.
+-- Two curves that differ only in their first and last minute have the same cells and verdicts.
 use Rattle.std.proofs.Common.{◌≡◌, ℕ, suc, ℤ, pos, ◌+ℤ◌, List, [], ◌∷◌, refl}
 use Rattle.curve_law.specs.declared.cell.Cell.{Cell}
 use Rattle.curve_law.specs.declared.cell.Cell.TheVariants.{Quiet, Still, Turn}
@@ -7,6 +7,7 @@ use Rattle.curve_law.specs.Cells.{minutes_of}
 use Rattle.curve_law.specs.Cover.{is_quiet, cover}
 use Rattle.curve_law.specs.Verdicts.{cell_verdict, cells_verdict, verdict}
 
+-- the cells made by halving don't depend on the curve's first and last minute
 pub cover-same : (c : CurveSpec) (first last a : ℤ) (n : ℕ) → cover (at_minutes first last c) a n ≡ cover c a n
 unfolding cover is_quiet
 cover-same c first last a n = refl
@@ -28,6 +29,7 @@ cells_verdict-same c first last a number (cell ∷ cells) =
       cells_verdict-same c first last (a +ℤ pos (minutes_of cell)) (suc number) cells,
     ) refl
 
+-- the verdict on cells doesn't depend on the curve's first and last minute
 pub verdict-same : (c : CurveSpec) (first last a : ℤ) (n : ℕ) (cells : List Cell)
     → verdict (at_minutes first last c) a n cells ≡ verdict c a n cells
 unfolding verdict

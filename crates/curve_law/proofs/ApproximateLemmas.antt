@@ -1,4 +1,4 @@
--- Cells that approximate values decide.
+-- Approximate values of a curve that decide which cell some minutes are.
 use Rattle.std.proofs.Common.{◌≡◌, ℕ, ◌*◌, ◌^◌, ◌≤◌, ◌<◌, ℤ, pos, ◌+ℤ◌, ◌-ℤ◌, ◌*ℤ◌, ◌≤ℤ◌, ◌<ℤ◌, unsigned_abs, int_lt, int_le, neg_ℤ, negsuc, ◌&&◌, ◌||◌, Bool, true, false, inl, Option, Some, None, IfSome, sym, ◌∙◌, to_z, of_z, FitsSigned, arith}
 use mir.Syntax.{w128}
 use Rattle.std.proofs.lemmas.Int.{ints}
@@ -14,7 +14,8 @@ pub sum-approximate : (approximate approximate_end v w : ℤ) (error : ℕ) → 
     → unsigned_abs ((approximate +ℤ approximate_end) -ℤ (v +ℤ w)) ≤ 2 * error
 sum-approximate approximate approximate_end v w error first second = omega (arith, ints, first, second)
 
--- two values that differ by at most `most`, and whose sum is far enough from 0 or not
+-- if two values differ by at most `most`, the size of their sum decides whether both are on one
+-- side of 0 with a sum that exceeds `most` (above 0) or is at least `most` in size (not above 0)
 far-keeps : (v w most : ℤ) (far : Bool) → w ≤ℤ (v +ℤ most) → v ≤ℤ (w +ℤ most) → IsFar most (v +ℤ w) far
     → ((int_lt (pos 0) v && int_lt (pos 0) w && int_lt most (v +ℤ w))
     || (int_le v (pos 0) && int_le w (pos 0) && int_le most (neg_ℤ (v +ℤ w)))) ≡ far
@@ -39,7 +40,8 @@ change-down c a (negsuc r) n some law = absurd (let step = law.steps 0 some in o
 change-down c a (pos r) n some law =
     drift_down c.track.value a r n (λ k h. let step = law.steps k h in omega (arith, ints))
 
--- a sum of two values that is far enough from 0, or not
+-- if the sum of the values at both ends is greater than the rate times the minutes in size, the
+-- minutes can be one quiet cell; if it is smaller in size, they can't
 far-quiet : (c : CurveSpec) (a : ℤ) (n : ℕ) (rate : ℤ) (far : Bool) → IsLawful c → IsSpan c a n → 2 ≤ n → n ≤ MOST_MINUTES
     → Some rate ≡ c.rate a n → IsFar (rate *ℤ pos n) (c.track.value a +ℤ c.track.value (a +ℤ pos n)) far
     → is_quiet c a n ≡ far
@@ -135,7 +137,8 @@ pub sum-size : (v w : ℤ) → unsigned_abs v < 2 * 10 ^ 37 → unsigned_abs w <
     → unsigned_abs (v +ℤ w) < 4 * 10 ^ 37
 sum-size v w first second = omega (arith, ints, first, second)
 
--- the size of an approximate sum, less the error and with it, decides how the sum compares with `most`
+-- the size of an approximate sum, less the error and with it, decides how the sum compares with
+-- `most`
 pub size_less-fits : (v size e : ℤ) → size ≡ pos (unsigned_abs v) → unsigned_abs v < 4 * 10 ^ 37 → pos 0 ≤ℤ e
     → e ≤ℤ pos (2 * 10 ^ 36) → FitsSigned w128 (to_z w128 (of_z w128 size) -ℤ to_z w128 (of_z w128 e))
 size_less-fits v size e is small least most = omega (arith, ints)
@@ -163,7 +166,7 @@ pub size_more-close : (v size e most sum : ℤ) → size ≡ pos (unsigned_abs v
     → unsigned_abs (v -ℤ sum) ≤ unsigned_abs e → IsFar most sum false
 size_more-close v size e most sum is least test close = let exceeded = less (size +ℤ e) most test in omega (arith, ints)
 
--- a property of all values that an approximation allows is one of the value
+-- if what is known of an optional Bool implies another property, that property is known too
 pub some-decided : {P Q : Bool → Type 0} (o : Option Bool) → IfSome o P → ((x : Bool) → P x → Q x) → IfSome o Q
 some-decided None decided then = tt
 some-decided (Some x) decided then = then x decided

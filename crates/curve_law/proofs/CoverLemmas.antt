@@ -1,5 +1,5 @@
--- The pieces of a span don't depend on the number of halvings or blocks that is allowed; its cells are
--- those of its pieces.
+-- The pieces of a span don't depend on the limit on the number of halvings or of blocks, if it is
+-- large enough; and the cells of a span are the cells of its pieces.
 use Rattle.std.proofs.Common.{◌≡◌, ℕ, zero, suc, ◌-◌, ◌/◌, ◌≤◌, ◌<◌, ℤ, pos, ◌+ℤ◌, ◌≤ℤ◌, ◌<ℤ◌, Bool, true, false, cond, nat_le, List, [], ◌∷◌, ◌++◌, length, map, refl, sym, ap, ◌∙◌, arith}
 use Rattle.std.proofs.lemmas.Bool.Decides.{nat_tests}
 use Rattle.std.proofs.lemmas.Int.{ints}
@@ -10,12 +10,13 @@ use Rattle.curve_law.specs.declared.quiet.TheConstants.{MOST_MINUTES}
 use Rattle.curve_law.specs.Pieces.{Interval, interval, stays_whole, halves_within, pieces_of_block, blocks_within, pieces_of}
 use Rattle.curve_law.specs.Cover.{is_quiet, unit_cell, cell_of, split, cover}
 
--- a fact by cases of a test
+-- a fact that is proved both if a test is true and if it is false
 pub by_test : {P : Type 0} (b : Bool) → (b ≡ true → P) → (b ≡ false → P) → P
 by_test true is isn = is refl
 by_test false is isn = isn refl
 
--- a step of the rule, with the pieces of the two halves
+-- one step of the halving rule: the whole interval if it isn't halved, otherwise `halves`, the
+-- pieces of both halves
 abbrev pub halved : (ℤ → ℕ → Bool) → ℤ → ℕ → List Interval → List Interval
 halved test a n halves = cond (stays_whole test a n) (interval a n ∷ []) halves
 
@@ -40,7 +41,8 @@ pub halves_within-step : (d n : ℕ) (test : ℤ → ℕ → Bool) (a : ℤ) →
 unfolding halves_within
 halves_within-step d n test a = one_test (stays_whole test a n) _ _
 
--- a step of the rule for blocks, with the pieces of the rest
+-- one step of the rule for blocks: the pieces of the only block, or the pieces of the first block
+-- followed by `rest`
 abbrev pub blocked : (ℤ → ℕ → Bool) → ℤ → ℕ → List Interval → List Interval
 blocked test a n rest = cond (nat_le n MOST_MINUTES) (pieces_of_block test a n) (pieces_of_block test a MOST_MINUTES ++ rest)
 
@@ -65,14 +67,14 @@ block-none : (test : ℤ → ℕ → Bool) (a : ℤ) → pieces_of_block test a 
 unfolding pieces_of_block halves_within
 block-none test a = refl
 
--- minutes that aren't halved
+-- if the n minutes aren't halved, they are the only piece of their block
 pub block-whole : (test : ℤ → ℕ → Bool) (a : ℤ) (n : ℕ) → 1 ≤ n → stays_whole test a n ≡ true
     → pieces_of_block test a n ≡ interval a n ∷ []
 unfolding pieces_of_block
 block-whole test a zero some whole = absurd (omega arith)
 block-whole test a (suc n) some whole = halves_within-step n (suc n) test a ∙ rw whole refl
 
--- minutes that are halved
+-- if the n minutes are halved, their pieces are the pieces of the first half and then of the second
 pub block-halves : (test : ℤ → ℕ → Bool) (a : ℤ) (n : ℕ) → stays_whole test a n ≡ false
     → pieces_of_block test a n ≡ pieces_of_block test a (n / 2) ++ pieces_of_block test (a +ℤ pos (n / 2)) (n - n / 2)
 unfolding pieces_of_block
@@ -96,10 +98,12 @@ blocks_within-more (suc d) (suc e) n test a few also =
     ∙ ap (blocked test a n) (blocks_within-more d e (n - MOST_MINUTES) test (a +ℤ pos MOST_MINUTES) (omega arith) (omega arith))
     ∙ sym (blocks_within-step e n test a)
 
+-- a span of no minutes has no pieces
 pub pieces-none : (test : ℤ → ℕ → Bool) (a : ℤ) → pieces_of test a 0 ≡ []
 unfolding pieces_of blocks_within
 pieces-none test a = refl
 
+-- a span of at most 1,024 minutes is one block
 pub pieces-last : (test : ℤ → ℕ → Bool) (a : ℤ) (n : ℕ) → n ≤ MOST_MINUTES → pieces_of test a n ≡ pieces_of_block test a n
 unfolding pieces_of
 pieces-last test a zero few = pieces-none test a ∙ sym (block-none test a)
@@ -107,6 +111,7 @@ pieces-last test a (suc n) few =
     let e : nat_le (suc n) MOST_MINUTES ≡ true = grind (arith, nat_tests) in
     blocks_within-step n (suc n) test a ∙ rw e refl
 
+-- the pieces of a longer span are the pieces of its first 1,024 minutes, and then of the rest
 pub pieces-block : (test : ℤ → ℕ → Bool) (a : ℤ) (n : ℕ) → MOST_MINUTES < n → pieces_of test a n
     ≡ pieces_of_block test a MOST_MINUTES ++ pieces_of test (a +ℤ pos MOST_MINUTES) (n - MOST_MINUTES)
 unfolding pieces_of
@@ -118,6 +123,8 @@ pieces-block test a (suc n) more =
 
 -- ---- consecutive pieces, none of which is halved
 
+-- `AreWhole test a end pieces`: the pieces follow each other without gaps from minute `a` up to
+-- `end`, and each has at least one minute and isn't halved
 unfoldable pub AreWhole : (ℤ → ℕ → Bool) → ℤ → ℤ → List Interval → Type 0
 AreWhole test a end [] = a ≡ end
 AreWhole test a end (piece ∷ pieces) =
@@ -163,10 +170,11 @@ pieces-whole-within (suc d) n test a few = by_test (nat_le n MOST_MINUTES)
     (block-whole-within MOST_MINUTES MOST_MINUTES test a (omega arith))
     (rw all at (pieces-whole-within d (n - MOST_MINUTES) test (a +ℤ pos MOST_MINUTES) (omega arith)))))
 
+-- the pieces of a span follow each other without gaps over the whole span, and none is halved
 pub pieces-whole : (test : ℤ → ℕ → Bool) (a : ℤ) (n : ℕ) → AreWhole test a (a +ℤ pos n) (pieces_of test a n)
 pieces-whole test a n = pieces-whole-within n n test a (omega arith)
 
--- each piece has a minute
+-- such pieces are at most as many as the minutes from `a` up to `end`
 pub whole-few : (test : ℤ → ℕ → Bool) (a end : ℤ) (pieces : List Interval) → AreWhole test a end pieces → (a +ℤ pos (length pieces)) ≤ℤ end
 unfolding AreWhole
 whole-few test a end [] whole = omega (arith, ints)
@@ -175,10 +183,12 @@ whole-few test a end (piece ∷ pieces) whole =
     let rest = whole-few test (a +ℤ pos piece.minutes) end pieces whole.3 in
     omega (arith, ints)
 
+-- a block has at most as many pieces as minutes
 pub block-few : (test : ℤ → ℕ → Bool) (a : ℤ) (n : ℕ) → length (pieces_of_block test a n) ≤ n
 block-few test a n =
     let few = whole-few test a (a +ℤ pos n) _ (block-whole-within n n test a (omega arith)) in omega (arith, ints)
 
+-- a span has at most as many pieces as minutes
 pub pieces-few : (test : ℤ → ℕ → Bool) (a : ℤ) (n : ℕ) → length (pieces_of test a n) ≤ n
 pieces-few test a n = let few = whole-few test a (a +ℤ pos n) _ (pieces-whole test a n) in omega (arith, ints)
 
@@ -187,7 +197,7 @@ unfolding AreWhole
 whole-some test a end [] whole some = absurd (omega (arith, ints))
 whole-some test a end (piece ∷ pieces) whole some = omega arith
 
--- a block of at least one minute has a piece
+-- a block of at least one minute has at least one piece
 pub block-some : (test : ℤ → ℕ → Bool) (a : ℤ) (n : ℕ) → 1 ≤ n → 1 ≤ length (pieces_of_block test a n)
 block-some test a n some =
     whole-some test a (a +ℤ pos n) _ (block-whole-within n n test a (omega arith)) (omega (arith, ints))

@@ -1,5 +1,5 @@
--- A value that changes by at most its rate each minute stays on its side of 0 between end values far
--- enough from 0.
+-- A value that changes by at most its rate in each minute stays on its side of 0 between two end
+-- values on this side if their sum is large enough in size.
 use Rattle.std.proofs.Common.{nat_le, ◌⊎◌, ◌≡◌, ◌≢◌, ℕ, zero, suc, ◌+◌, ◌-◌, ◌*◌, ◌^◌, ◌≤◌, ◌<◌, ℤ, pos, negsuc, ◌+ℤ◌, ◌-ℤ◌, ◌*ℤ◌, neg_ℤ, ◌≤ℤ◌, ◌<ℤ◌, unsigned_abs, int_lt, int_le, Bool, true, false, not, ◌&&◌, ◌||◌, cond, Option, Some, None, refl, sym, ◌∙◌, w64, to_z, of_z, FitsSigned, arith}
 use mathlib.Core.Bool.{beq}
 use Rattle.std.proofs.lemmas.Bool.Decides.{nat_tests}
@@ -10,7 +10,7 @@ use Rattle.curve_law.specs.CurveSpec.{CurveSpec, IsMinute, IsSpan, IsCell, IsRat
 use Rattle.curve_law.specs.declared.quiet.TheConstants.{MOST_MINUTES}
 use Rattle.curve_law.specs.Cover.{keeps_side, is_quiet, unit_cell}
 
--- a bound on the value some minutes after the begin, and some minutes before the end
+-- if the value changes by at most r in each of n minutes, it rises by at most r * n
 pub drift_up : (f : ℤ → ℤ) (a : ℤ) (r n : ℕ)
     → ((k : ℕ) → k < n → unsigned_abs (f (a +ℤ pos k +ℤ pos 1) -ℤ f (a +ℤ pos k)) ≤ r)
     → f (a +ℤ pos n) ≤ℤ (f a +ℤ pos (r * n))
@@ -21,6 +21,7 @@ drift_up f a r (suc n) steps =
     let there : a +ℤ pos n +ℤ pos 1 ≡ a +ℤ pos (suc n) = omega (arith, ints) in
     rw (← there) (omega (arith, ints))
 
+-- if the value changes by at most r in each of n minutes, it falls by at most r * n
 pub drift_down : (f : ℤ → ℤ) (a : ℤ) (r n : ℕ)
     → ((k : ℕ) → k < n → unsigned_abs (f (a +ℤ pos k +ℤ pos 1) -ℤ f (a +ℤ pos k)) ≤ r)
     → f a ≤ℤ (f (a +ℤ pos n) +ℤ pos (r * n))
@@ -31,7 +32,7 @@ drift_down f a r (suc n) steps =
     let there : a +ℤ pos n +ℤ pos 1 ≡ a +ℤ pos (suc n) = omega (arith, ints) in
     rw (← there) (omega (arith, ints))
 
--- the steps of the second part of a cell
+-- if the value changes by at most r in each of j + i minutes, it does so in each of the last i
 pub later_steps : (f : ℤ → ℤ) (a : ℤ) (r j i : ℕ)
     → ((k : ℕ) → k < j + i → unsigned_abs (f (a +ℤ pos k +ℤ pos 1) -ℤ f (a +ℤ pos k)) ≤ r) → (k : ℕ) → k < i
     → unsigned_abs (f (a +ℤ pos j +ℤ pos k +ℤ pos 1) -ℤ f (a +ℤ pos j +ℤ pos k)) ≤ r
@@ -79,7 +80,7 @@ same_side c a j i (pos r) some is keeps =
     let below = stays_below c.track.value a r j i steps in
     by_sides (c.track.value a) (c.track.value (a +ℤ pos (j + i))) (c.track.value (a +ℤ pos j)) (pos (r * (j + i))) above below keeps
 
--- the conditions of a quiet cell
+-- what `is_quiet` says: the range of n, and that the value keeps its side by the rate
 quiet_parts : (c : CurveSpec) (a : ℤ) (n : ℕ) → is_quiet c a n ≡ true
     → (2 ≤ n) × (n ≤ MOST_MINUTES) × (keeps_side (c.rate a n) n (c.track.value a) (c.track.value (a +ℤ pos n)) ≡ true)
 unfolding is_quiet
@@ -89,7 +90,7 @@ no_rate : (n : ℕ) (v w : ℤ) → keeps_side None n v w ≡ true → ⊥
 unfolding keeps_side
 no_rate n v w h = cc
 
--- the minutes of a quiet cell are a cell with a rate
+-- the minutes of a quiet cell are in the ranges for which a curve may have a rate
 pub quiet_cell : (c : CurveSpec) (a : ℤ) (n : ℕ) → IsSpan c a n → 2 ≤ n → n ≤ MOST_MINUTES → IsCell c a n
 quiet_cell c a n span two most = record { first = span.first; last = span.last; some = omega arith; few = most }
 
@@ -102,7 +103,7 @@ rated c a n (Some rate) is lawful span two most keeps j few =
     let law = lawful.rates a n rate (quiet_cell c a n span two most) is in
     same_side c a j (n - j) rate (omega arith) (rw all at law) (rw all at keeps)
 
--- each value in a quiet cell is on the side of its ends
+-- each value in a quiet cell, its end included, is on the side of 0 of its first value
 pub quiet-sides : (c : CurveSpec) (a : ℤ) (n : ℕ) → IsLawful c → IsSpan c a n → is_quiet c a n ≡ true → (j : ℕ) → j ≤ n
     → side_at c.track (a +ℤ pos j) ≡ side_at c.track a
 quiet-sides c a n lawful span quiet =
@@ -121,7 +122,7 @@ change true false e = refl
 change false true e = refl
 change false false e = absurd (e refl)
 
--- no event comes after any minute of a quiet cell
+-- no event is after any minute of a quiet cell
 pub quiet-no_event : (c : CurveSpec) (a : ℤ) (n : ℕ) → IsLawful c → IsSpan c a n → is_quiet c a n ≡ true → (k : ℕ) → k < n
     → has_event c.track (a +ℤ pos k) ≡ false
 quiet-no_event c a n lawful span quiet k few =
@@ -130,7 +131,7 @@ quiet-no_event c a n lawful span quiet k few =
     let next : a +ℤ pos k +ℤ pos 1 ≡ a +ℤ pos (suc k) = omega (arith, ints) in
     no_change (side_at c.track (a +ℤ pos k)) (side_at c.track (a +ℤ pos k +ℤ pos 1)) (here ∙ sym (rw next there))
 
--- the test depends on the side of the first value
+-- if both end values are above 0, the test compares their sum with the rate times the minutes
 pub keeps-above : (v w most rate : ℤ) (n : ℕ) → most ≡ rate *ℤ pos n → pos 0 <ℤ v → pos 0 <ℤ w
     → int_lt most (v +ℤ w) ≡ keeps_side (Some rate) n v w
 unfolding keeps_side
@@ -149,6 +150,7 @@ pub keeps-not_below : (v w rate : ℤ) (n : ℕ) → v ≤ℤ pos 0 → pos 0 <�
 unfolding keeps_side
 keeps-not_below v w rate n first second = grind (arith, ints)
 
+-- fewer than 2 or more than 1,024 minutes are no quiet cell
 pub is_quiet-length : (c : CurveSpec) (a : ℤ) (n : ℕ) → (n < 2) ⊎ (2 ≤ n × MOST_MINUTES < n) → false ≡ is_quiet c a n
 unfolding is_quiet
 is_quiet-length c a n other =
@@ -164,6 +166,7 @@ pub no_rate-quiet : (c : CurveSpec) (a : ℤ) (n : ℕ) → 2 ≤ n → n ≤ MO
 unfolding keeps_side
 no_rate-quiet c a n two most is = is_quiet-rate c a n None two most is
 
+-- the rate of a lawful curve isn't negative
 pub rate-positive : (c : CurveSpec) (a : ℤ) (n : ℕ) (rate : ℤ) → IsLawful c → IsSpan c a n → 2 ≤ n → n ≤ MOST_MINUTES
     → Some rate ≡ c.rate a n → pos 0 ≤ℤ rate
 rate-positive c a n rate lawful span two most is =
@@ -171,31 +174,35 @@ rate-positive c a n rate lawful span two most is =
     let step = law.steps 0 (omega arith) in
     omega (arith, ints)
 
--- a rate is small enough for the most minutes of a quiet cell
+-- 1,024 times the rate of a lawful curve is below 5 * 10^37
 pub rate-small : (c : CurveSpec) (a : ℤ) (n : ℕ) (rate : ℤ) → IsLawful c → IsSpan c a n → 2 ≤ n → n ≤ MOST_MINUTES
     → Some rate ≡ c.rate a n → (rate *ℤ pos MOST_MINUTES) <ℤ pos (5 * 10 ^ 37)
 rate-small c a n rate lawful span two most is =
     let law = lawful.rates a n rate (quiet_cell c a n span two most) (sym is) in law.small
 
--- both ends of a span are minutes of the curve, with values within the limit
+-- the first minute of a span is a minute of the curve
 pub begin-minute : (c : CurveSpec) (a : ℤ) (n : ℕ) → IsSpan c a n → IsMinute c a
 begin-minute c a n span = record { first = span.first; last = (let last = span.last in omega (arith, ints, last)) }
 
+-- the end of a span is a minute of the curve
 pub end-minute : (c : CurveSpec) (a : ℤ) (n : ℕ) → IsSpan c a n → IsMinute c (a +ℤ pos n)
 end-minute c a n span = record { first = (let first = span.first in omega (arith, ints, first)); last = span.last }
 
+-- the value of a lawful curve at the first minute of a span is below 10^37 in size
 pub begin-small : (c : CurveSpec) (a : ℤ) (n : ℕ) → IsLawful c → IsSpan c a n → unsigned_abs (c.track.value a) < 10 ^ 37
 begin-small c a n lawful span = lawful.values a (begin-minute c a n span)
 
+-- the value of a lawful curve at the end of a span is below 10^37 in size
 pub end-small : (c : CurveSpec) (a : ℤ) (n : ℕ) → IsLawful c → IsSpan c a n
     → unsigned_abs (c.track.value (a +ℤ pos n)) < 10 ^ 37
 end-small c a n lawful span = lawful.values (a +ℤ pos n) (end-minute c a n span)
 
--- the minute at the end of a span of a lawful curve, computed without overflow
+-- the end of a span of a lawful curve is computed without overflow of 64 bits
 pub end-fits : (c : CurveSpec) (a m : ℤ) (n : ℕ) → IsLawful c → IsSpan c a n → m ≡ pos n
     → FitsSigned w64 (to_z w64 (of_z w64 a) +ℤ m)
 end-fits c a m n lawful span is = omega (arith, ints, lawful.early, lawful.late, span.first, span.last, is)
 
+-- the end of a span, computed with 64 bits, is the first minute plus the number of minutes
 pub end-value : (c : CurveSpec) (a m : ℤ) (n : ℕ) → IsLawful c → IsSpan c a n → m ≡ pos n
     → to_z w64 (of_z w64 (to_z w64 (of_z w64 a) +ℤ m)) ≡ a +ℤ pos n
 end-value c a m n lawful span is = omega (arith, ints, lawful.early, lawful.late, span.first, span.last, is)

@@ -1,4 +1,4 @@
--- Cells that are accepted, and the events that they have.
+-- Cells that the check accepts, and the events in them.
 use Rattle.std.proofs.Common.{◌≡◌, ℕ, zero, suc, ◌==◌, ℤ, pos, ◌+ℤ◌, Bool, true, false, cond, List, [], ◌∷◌, refl, sym, ap, ◌∙◌, arith}
 use Rattle.std.specs.Ordering.{int_eq}
 use Rattle.std.proofs.lemmas.Bool.Decides.{nat_tests, Decides-int_eq, Decides-eqb}
@@ -33,6 +33,7 @@ kind_at-place EbbBegins = refl
 kind_at-place MarkRising = refl
 kind_at-place MarkFalling = refl
 
+-- kinds that the test `same_kind` doesn't distinguish are equal
 pub one_kind : (k l : Kind) → same_kind k l ≡ true → k ≡ l
 one_kind k l same =
     sym (kind_at-place k) ∙ ap kind_at ((Decides-eqb (rank_of_kind k) (rank_of_kind l)).0 same) ∙ kind_at-place l
@@ -47,21 +48,22 @@ both_accepted (NotQuiet cell) w h = cc
 both_accepted (WrongStep cell) w h = cc
 both_accepted (WrongLevel cell written computed) w h = cc
 
--- a test that selects acceptance is true
+-- if a choice between acceptance and a fault is acceptance, its test is true
 pub accepted_true : {V : Type 0} (b : Bool) (ok v : V) → (v ≡ ok → ⊥) → cond b ok v ≡ ok → b ≡ true
 accepted_true true ok v unlike h = refl
 accepted_true false ok v unlike h = absurd (unlike h)
 
+-- if a choice between a fault and acceptance is acceptance, its test is false
 pub accepted_false : {V : Type 0} (b : Bool) (ok v : V) → (v ≡ ok → ⊥) → cond b v ok ≡ ok → b ≡ false
 accepted_false true ok v unlike h = absurd (unlike h)
 accepted_false false ok v unlike h = refl
 
--- a test that selects a verdict which may be acceptance
+-- if a choice between a verdict and a fault is acceptance, its test is true and the verdict accepts
 pub tested : {V : Type 0} (b : Bool) (ok v w : V) → (w ≡ ok → ⊥) → cond b v w ≡ ok → (b ≡ true) × (v ≡ ok)
 tested true ok v w unlike h = (refl, h)
 tested false ok v w unlike h = absurd (unlike h)
 
--- an accepted cell has the event of its minutes
+-- if a cell is accepted, its event is the list of the events of its minutes
 accepted-event : (c : CurveSpec) (a : ℤ) (number : ℕ) (cell : Cell) → IsLawful c → IsSpan c a (minutes_of cell)
     → cell_verdict c a number cell ≡ Accepted → event_in a cell ≡ plain_list c.track a (minutes_of cell)
 unfolding cell_verdict
@@ -93,7 +95,7 @@ accepted-cell_events c a number (cell ∷ cells) lawful span ok =
     (record { first = omega (arith, ints); last = omega (arith, ints) }) parts.1 in
     rw (here, rest) (sym (plain_list-add c.track a (minutes_of cell) (all_minutes cells)))
 
--- accepted cells have exactly the events of the span
+-- if the cells of a span are accepted, their events are exactly the events of the span
 pub verdict-exact : (c : CurveSpec) (a : ℤ) (n : ℕ) (cells : List Cell) → IsLawful c → IsSpan c a n
     → verdict c a n cells ≡ Accepted → cell_events a cells ≡ plain_list c.track a n
 unfolding verdict

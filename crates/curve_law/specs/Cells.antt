@@ -1,4 +1,5 @@
--- Consecutive cells, and their events (this project).
+-- Lists of cells: their minutes and their events. A cell is some consecutive minutes, and which
+-- event is after them (this project).
 use Rattle.std.specs.Prelude.{ℕ, ◌+◌, ℤ, pos, ◌+ℤ◌, List, [], ◌∷◌, ◌++◌}
 use Rattle.curve_law.specs.declared.cell.Cell.{Cell}
 use Rattle.curve_law.specs.declared.cell.Cell.TheVariants.{Quiet, Still, Turn}
@@ -15,13 +16,14 @@ unfoldable pub all_minutes : List Cell → ℕ
 all_minutes [] = 0
 all_minutes (cell ∷ cells) = minutes_of cell + all_minutes cells
 
--- the event in a cell that begins at minute `a`, as a list; empty if it has none
+-- the event in a cell that begins at minute `a`, as a list with this event; empty if the cell has
+-- no event
 abbrev pub event_in : ℤ → Cell → List Event
 event_in a (Quiet n) = []
 event_in a Still = []
 event_in a (Turn kind level) = record { minute = a; kind = kind; level = level } ∷ []
 
--- the events in consecutive cells, of which the first begins at minute `a`
+-- the events in a list of cells without gaps, of which the first cell begins at minute `a`
 unfoldable pub cell_events : ℤ → List Cell → List Event
 cell_events a [] = []
 cell_events a (cell ∷ cells) = event_in a cell ++ cell_events (a +ℤ pos (minutes_of cell)) cells

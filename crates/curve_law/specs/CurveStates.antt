@@ -1,20 +1,21 @@
--- The state of a curve: facts that no call changes, and the number of evaluations until now (this
--- project).
+-- The state of a curve in contracts: facts that no call changes, and the number of evaluations
+-- until now (this project).
 use Rattle.std.specs.Prelude.{ℕ, ◌+◌, ℤ}
 use Rattle.curve_law.specs.CurveSpec.{CurveSpec}
 
--- facts about a curve that no call changes: its definition, the approximate value at each minute, and
--- the most by which an approximate value differs from the value
+-- facts about a curve that no call changes: its minutes, values and rates (`curve_spec`), its
+-- approximate value at each minute, and `error`, which the trait `Curve` proves to be at least as
+-- great as the difference between the approximate value and the value at any of its minutes
 pub record CurveModel : Type 0 where
   pub curve_spec : CurveSpec
   pub approximate : ℤ → ℤ
   pub error : ℕ
 
--- the facts about a curve, and the number of its evaluations, exact and approximate
+-- the facts about a curve, and the number of its evaluations until now, exact and approximate
 pub record CurveState : Type 0 where
   pub curve_model : CurveModel
   pub count : ℕ
 
--- the state after one more evaluation: the facts are the same
+-- the state after one more evaluation, with the same facts
 abbrev pub evaluated_once : CurveState → CurveState
 evaluated_once s = record s { count = s.count + 1 }

@@ -1,4 +1,4 @@
--- Small curves, for tests (this project).
+-- Two small curves, for tests (this project).
 use Rattle.std.specs.Prelude.{Bool, ℤ, pos, negsuc, ◌+ℤ◌, ◌-ℤ◌, if◌then◌else◌, Some, None}
 use Rattle.std.specs.Int.{int_rem_euclid}
 use Rattle.std.specs.Ordering.{int_eq}
@@ -6,8 +6,9 @@ use Rattle.curve_law.specs.declared.kind.Kind.TheVariants.{High, Low, MarkRising
 use Rattle.curve_law.specs.CurveSpec.{CurveSpec}
 use Rattle.curve_law.specs.CurveStates.{CurveModel}
 
--- a curve for tests: its value is `start` at minute 0, and rises, or falls if the Bool is true, by 1
--- each minute, with the minute as its level and with this rate
+-- `line start falls rate`: a curve for tests over the minutes from -1,000,000 to 1,000,000: its
+-- value is `start` at minute 0 and rises by 1 each minute, or falls by 1 if `falls` is true; the
+-- level at a minute is the minute's number, and `rate` is the bound on its change in any minute
 abbrev pub line : ℤ → Bool → ℤ → CurveSpec
 line start falls rate = record {
   first = negsuc 999999;
@@ -16,7 +17,8 @@ line start falls rate = record {
   rate = λ a n. Some rate;
 }
 
--- the facts about the curve `line`: each approximate value is 1 too high
+-- the facts about the curve `line start falls rate`: each approximate value is 1 greater than the
+-- value, and the error of approximate values is 1
 abbrev pub line_model : ℤ → Bool → ℤ → CurveModel
 line_model start falls rate = record {
   curve_spec = line start falls rate;
@@ -24,7 +26,8 @@ line_model start falls rate = record {
   error = 1;
 }
 
--- a curve for tests: its value is 1 at even minutes and -1 at odd ones, with no rate
+-- a curve for tests over the minutes from -1,000,000 to 1,000,000: its value is 1 at even minutes
+-- and -1 at odd ones, its levels are 0, and it has no bound on its change
 abbrev pub ripple : CurveSpec
 ripple = record {
   first = negsuc 999999;
@@ -38,6 +41,7 @@ ripple = record {
   rate = λ a n. None;
 }
 
--- the facts about the curve `ripple`: each approximate value is 0, and decides nothing
+-- the facts about the curve `ripple`: each approximate value is 0, and the error is 1, so no side
+-- of 0 is decided by an approximate value
 abbrev pub ripple_model : CurveModel
 ripple_model = record { curve_spec = ripple; approximate = λ m. pos 0; error = 1 }

@@ -1,4 +1,5 @@
-//! The cell between two approximate values. If these leave it open, the exact values are used.
+//! Quiet cells and cells of one minute, decided from approximate values of a curve. If these don't
+//! decide, the exact values do.
 
 ghost use Rattle.std.specs.Prelude.{◌≡◌, ◌*◌, ◌^◌, ◌<◌, ◌≤◌, ℤ, pos, ◌+ℤ◌, ◌-ℤ◌, ◌≤ℤ◌, int_lt, unsigned_abs, IfSome};
 ghost use Rattle.curve_law.specs.Track.{side_at};
@@ -11,10 +12,11 @@ use crate::cell::Cell;
 use crate::curve::Curve;
 use crate::quiet::{MOST_MINUTES, cell_of_sides, is_quiet, most_change};
 
-/// Returns true if the `n` minutes from `a` on can be one quiet cell. `n` is from 2 to 1,024, and the
-/// values at `a` and at `a + n` are on one side of 0, so far from it that no value between them can
-/// cross 0 at the curve's rate. `approximate` and `approximate_end` are the approximate values at these
-/// two minutes; the exact values are used only if the approximate ones leave it open.
+/// Returns true if the `n` minutes from minute `a` on can be one quiet cell (2 to 1,024 minutes in
+/// which, by a bound on the curve's change in a minute, its value can't cross 0). This is decided
+/// from the values at `a` and at `a + n`, their sum and the bound, and is false without a bound.
+/// `n` is at most 1,024. `approximate` and `approximate_end` are the curve's approximate values at
+/// `a` and at `a + n`; the exact values are used only if these don't decide.
 #[inline(always)]
 pub fn is_quiet_from_approximate<C: Curve>(
     curve: &C,
@@ -35,10 +37,10 @@ pub fn is_quiet_from_approximate<C: Curve>(
     }
 }
 
-/// Returns the cell of the single minute `a`: with an event if the value is above 0 at `a` and not at
-/// `a + 1`, or not above 0 at `a` and above 0 at `a + 1`. `approximate` and `approximate_next` are the
-/// approximate values at these two minutes; the exact values are used only if the approximate ones
-/// leave it open.
+/// Returns the cell of the single minute `a`: a cell with an event ([`Cell::Turn`]) if the curve's
+/// value is above 0 at `a` and not at `a + 1`, or not at `a` and above 0 at `a + 1`; otherwise
+/// [`Cell::Still`]. `approximate` and `approximate_next` are the curve's approximate values at `a`
+/// and at `a + 1`; the exact values are used only if these don't decide.
 pub fn unit_cell_from_approximate<C: Curve>(
     curve: &C,
     a: i64,
@@ -55,9 +57,10 @@ pub fn unit_cell_from_approximate<C: Curve>(
     cell_of_sides(curve, a, is_above, is_above_next)
 }
 
-/// Returns whether the `n` minutes from `a` on can be one quiet cell, or `None` if the approximate
-/// values at `a` and at `a + n` leave it open. If their sum exceeds the most that the two exact values
-/// can differ by, both are on one side of 0, so the sum decides.
+/// Returns whether the `n` minutes from minute `a` on can be one quiet cell, or `None` if the
+/// approximate values at `a` and at `a + n` don't decide it. The two exact values differ by at most
+/// the rate times `n`. If their sum is greater than this in size, both are on one side of 0; the
+/// approximate sum differs from the exact one by at most twice the error.
 #[inline(always)]
 fn quiet_if_decided<C: Curve>(
     curve: &C,
@@ -87,6 +90,7 @@ fn quiet_if_decided<C: Curve>(
     }
 }
 
+/// Returns whether the `n` minutes from minute `a` on can be one quiet cell, by the exact values.
 #[cold]
 #[inline(never)]
 fn is_quiet_exactly<C: Curve>(
@@ -107,7 +111,8 @@ fn is_quiet_exactly<C: Curve>(
     is_quiet(curve, a, n, value, end_value)
 }
 
-/// Returns true if the value at minute `m` is above 0; `approximate` is its approximate value.
+/// Returns true if the curve's value at minute `m` is above 0; `approximate` is its approximate
+/// value. The exact value is used only if `approximate` doesn't decide.
 fn is_above_from_approximate<C: Curve>(curve: &C, m: i64, approximate: i128) -> bool
     requires minute { IsMinute (C.state curve.now).curve_model.curve_spec m }
     requires approximate { approximate ≡ (C.state curve.now).curve_model.approximate m }
@@ -119,6 +124,7 @@ fn is_above_from_approximate<C: Curve>(curve: &C, m: i64, approximate: i128) -> 
     }
 }
 
+/// Returns true if the curve's exact value at minute `m` is above 0.
 #[cold]
 #[inline(never)]
 fn is_above_exactly<C: Curve>(curve: &C, m: i64, approximate: i128) -> bool
@@ -129,8 +135,8 @@ fn is_above_exactly<C: Curve>(curve: &C, m: i64, approximate: i128) -> bool
     curve.exact_value(m, approximate) > 0
 }
 
-/// Returns true if each value within `error` of `approximate` is above 0, false if none is, and `None`
-/// otherwise.
+/// Returns `Some(true)` if each value that differs from `approximate` by at most `error` is above
+/// 0, `Some(false)` if none of these values is, and `None` otherwise.
 fn side_of(approximate: i128, error: i128) -> Option<bool>
     requires approximate { unsigned_abs approximate < 2 * 10 ^ 37 }
     requires least { pos 0 ≤ℤ error }
@@ -147,8 +153,8 @@ fn side_of(approximate: i128, error: i128) -> Option<bool>
     }
 }
 
-/// Returns true if each sum within `error` of `approximate` exceeds `most` in size, false if each is smaller,
-/// and `None` otherwise.
+/// Returns `Some(true)` if each sum that differs from `approximate` by at most `error` is greater
+/// than `most` in size, `Some(false)` if each is smaller than `most` in size, and `None` otherwise.
 fn passes(approximate: i128, error: i128, most: i128) -> Option<bool>
     requires approximate { unsigned_abs approximate < 4 * 10 ^ 37 }
     requires least { pos 0 ≤ℤ error }

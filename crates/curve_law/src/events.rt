@@ -5,7 +5,7 @@ ghost use Rattle.std.specs.Prelude.{◌≡◌};
 use crate::event::Event;
 use std::marker::Model;
 
-/// Events in order of time. In contracts its value is the list of the events.
+/// A list of events. In contracts its value is the list of the events.
 #[derive(Drop)]
 pub struct Events {
     items: Vec<Event>,
@@ -21,7 +21,7 @@ impl Model for Events {
 }
 
 impl Events {
-    /// Returns the list of the events in `items`. It doesn't allocate.
+    /// Returns the list of the events in `items`, in their order. It doesn't allocate.
     pub fn from_vec(items: Vec<Event>) -> Events
         ensures { result ≡ items.items }
     {

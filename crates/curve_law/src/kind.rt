@@ -1,18 +1,18 @@
 //! The kinds of events.
 
-/// The kind of an event. Events of one minute are listed in the order of these variants.
+/// The kind of an event. Events at the same minute are listed in the order of these variants.
 #[derive(Clone, Copy, Debug, PartialEq, Eq)]
 pub enum Kind {
-    /// A high water or greatest stream: the level stops rising.
+    /// A high water, or the greatest stream of a current: the level stops rising.
     High,
-    /// A low water or least stream: the level stops falling.
+    /// A low water, or the least stream of a current: the level stops falling.
     Low,
-    /// A slack: a current turns to flood.
+    /// A slack water at which a current turns to flood.
     FloodBegins,
-    /// A slack: a current turns to ebb.
+    /// A slack water at which a current turns to ebb.
     EbbBegins,
-    /// The level rises above a mark.
+    /// The level rises from the mark (a level that the request names) or below it to above it.
     MarkRising,
-    /// The level falls to a mark or below.
+    /// The level falls from above the mark (a level that the request names) to the mark or below.
     MarkFalling,
 }

@@ -1,19 +1,20 @@
-//! Theorems about the plain list of a span, which looks at each of its minutes.
+//! Theorems about the plain list of a span: its events, found by looking at each of its minutes.
 
 ghost use Rattle.std.specs.Prelude.{◌≡◌, ℕ, suc, ◌+◌, ◌<◌, ℤ, pos, ◌+ℤ◌, ◌≤ℤ◌, ◌<ℤ◌, true, false, if◌then◌else◌, [], ◌∷◌, ◌++◌};
 ghost use Rattle.curve_law.specs.Track.{Track, has_event, event_at, plain_list};
 
-/// Proves that the list of a span of no minutes is empty, and that the list of a span of one minute has
-/// at most the event after that minute.
+/// Proves that a span of no minutes has no events, and that the list of a span of one minute is the
+/// event after this minute, or is empty if there is none.
 pub fn plain_list_of_one_minute()
     ensures none { (t : Track) (a : ℤ) → plain_list t a 0 ≡ [] }
     ensures one { (t : Track) (a : ℤ) →
         plain_list t a 1 ≡ (if has_event t a then event_at t a ∷ [] else []) }
 {}
 
-/// Proves that the events of a span are those of its first minute followed by those of the rest, and
-/// that the events of any two spans of which the second begins at the end of the first are those of the
-/// joined span.
+/// Proves that the events of a span are the events of its first minute followed by the events of
+/// the rest. More generally, if a span of `k` minutes begins at the end of a span of `n` minutes,
+/// the events of the first followed by the events of the second are the events of all `n + k`
+/// minutes.
 pub fn plain_list_of_two_spans()
     ensures first { (t : Track) (a : ℤ) (n : ℕ) →
         plain_list t a (suc n) ≡ plain_list t a 1 ++ plain_list t (a +ℤ pos 1) n }
@@ -21,15 +22,16 @@ pub fn plain_list_of_two_spans()
         plain_list t a (n + k) ≡ plain_list t a n ++ plain_list t (a +ℤ pos n) k }
 {}
 
-/// Proves that a span has no event if there is no event after any of its minutes.
+/// Proves that a span has no events if no event is after any of its minutes.
 pub fn plain_list_of_quiet_minutes()
     ensures { (t : Track) (a : ℤ) (n : ℕ) →
         ((k : ℕ) → k < n → has_event t (a +ℤ pos k) ≡ false) → plain_list t a n ≡ [] }
 {}
 
-/// Proves the rule for the values at two consecutive minutes. There is no event if both are above 0, or
-/// if neither is, so a value that touches 0 from below has none. From above 0 to 0 or below it is the
-/// falling event, from 0 or below to above 0 the rising event, with the level of the first minute.
+/// Proves when an event is after minute `m`, from the values at `m` and at the next minute. There
+/// is none if both are above 0, or if neither is: a value that rises to 0 and then falls has no
+/// event. From above 0 to 0 or below there is an event of the falling kind, and from 0 or below to
+/// above 0 one of the rising kind, at minute `m` and with the level of minute `m`.
 pub fn events_pass_zero()
     ensures above { (t : Track) (m : ℤ) →
         pos 0 <ℤ t.value m → pos 0 <ℤ t.value (m +ℤ pos 1) → has_event t m ≡ false }

@@ -1,9 +1,10 @@
-//! Tracks and their events: the definitions of curves that cross zero.
+//! Tracks, curves and events: the definitions of values that cross zero.
 //!
-//! A track has a whole number at each minute, and an [`Event`] after each minute at which it changes its
-//! side of zero. The plain list of a span's events, in `specs/Track.antt`, is made by looking at each
-//! minute: each faster search must return the same list. A [`Curve`] is a track with bounds on its rate
-//! of change.
+//! A track has a whole number, its value, at each minute. There is an [`Event`] after each minute
+//! such that, of the values at it and at the next minute, exactly one is above zero. The plain list
+//! of the events in a span of time (`plain_list` in `specs/Track.antt`) is found by looking at each
+//! minute of the span; a faster search must return the same list. A [`Curve`] is a track with
+//! bounds on how fast its value changes.
 #![tactic(auto)]
 
 mod approximate;

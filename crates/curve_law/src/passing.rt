@@ -1,11 +1,11 @@
-//! The kind of the event at a crossing of zero.
+//! The kind of an event at which a value crosses zero.
 
 ghost use Rattle.std.specs.Prelude.{◌≡◌, if◌then◌else◌};
 
 use crate::kind::Kind;
 
-/// Returns the kind of the event after a minute that has one: `falling` if `is_above`, which says that
-/// the value at the minute is above 0, and otherwise `rising`.
+/// Returns the kind of the event after a minute that has one. `is_above` says whether the value at
+/// this minute is above 0: the result is `falling` if it is, and `rising` otherwise.
 pub fn kind_after(is_above: bool, rising: Kind, falling: Kind) -> Kind
     ensures { result ≡ (if is_above then falling else rising) }
 {

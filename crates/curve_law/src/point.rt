@@ -1,4 +1,4 @@
-//! A minute and the value there.
+//! A minute and the value at it.
 
 ghost use Rattle.std.specs.Prelude.{◌≡◌, ◌^◌, ◌<◌};
 ghost use Rattle.curve_law.specs.CurveSpec.{IsMinute};
@@ -6,14 +6,17 @@ ghost use Rattle.curve_law.specs.CurveStates.{evaluated_once};
 
 use crate::curve::Curve;
 
-/// A minute, and the value of a curve there, exact or approximate.
+/// A minute, and the value of a curve at it, exact or approximate.
 #[derive(Clone, Copy, Default)]
 pub struct Point {
+    /// The minute, since 1970-01-01T00:00Z.
     pub minute: i64,
+    /// The value at the minute, in the curve's own unit.
     pub value: i128,
 }
 
-/// Evaluates `curve` at `minute`, and returns the minute with the value.
+/// Returns `minute`, a minute of the curve, with the exact value of `curve` at it. The call counts
+/// as one evaluation; fewer than 2^63 were made before.
 pub fn point_at<C: Curve>(curve: &mut C, minute: i64) -> Point
     requires minute { IsMinute (C.state curve.old).curve_model.curve_spec minute }
     requires count_bound { (C.state curve.old).count < 2 ^ 63 }
@@ -26,7 +29,8 @@ pub fn point_at<C: Curve>(curve: &mut C, minute: i64) -> Point
     }
 }
 
-/// Evaluates `curve` approximately at `minute`, and returns the minute with the approximate value.
+/// Returns `minute`, a minute of the curve, with the approximate value of `curve` at it. The call
+/// counts as one evaluation; fewer than 2^63 were made before.
 #[inline(always)]
 pub fn approximate_point_at<C: Curve>(curve: &mut C, minute: i64) -> Point
     requires minute { IsMinute (C.state curve.old).curve_model.curve_spec minute }

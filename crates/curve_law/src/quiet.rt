@@ -1,4 +1,4 @@
-//! The cell between two values.
+//! Quiet cells and cells of one minute, decided from the exact values at both ends.
 
 ghost use Rattle.std.specs.Prelude.{◌≡◌, ◌*◌, ◌^◌, ◌<◌, ◌≤◌, pos, ◌+ℤ◌, ◌*ℤ◌, ◌≤ℤ◌, ◌<ℤ◌, unsigned_abs, Some};
 ghost use Rattle.curve_law.specs.CurveSpec.{IsMinute, IsSpan};
@@ -9,14 +9,15 @@ use crate::cell::Cell;
 use crate::curve::Curve;
 use crate::passing::kind_after;
 
-/// The most minutes of a quiet cell, which is also the number of minutes of the blocks that a span is
-/// cut into.
+/// The greatest number of minutes of a quiet cell, and the length of the blocks that a span of time
+/// is cut into.
 pub const MOST_MINUTES: u32 = 1024;
 
-/// Returns true if the `n` minutes from `a` on can be one quiet cell. `n` is from 2 to 1,024, and the
-/// values at `a` and at `a + n` are on one side of 0, so far from it that no value between them can
-/// cross 0 at the curve's rate. `value` and `end_value` are these two values. The rate is evaluated
-/// only if both are on one side of 0.
+/// Returns true if the `n` minutes from minute `a` on can be one quiet cell: `n` is from 2 to
+/// 1,024, the curve has a rate (a bound on its change in a minute) for them, and the values at `a`
+/// and at `a + n` are on one side of 0, with a sum that shows that no value between them crosses 0
+/// at this rate. `value` and `end_value` are the curve's values at `a` and at `a + n`. The rate is
+/// evaluated only if both are on one side of 0.
 pub fn is_quiet<C: Curve>(curve: &C, a: i64, n: u32, value: i128, end_value: i128) -> bool
     requires span { IsSpan (C.state curve.now).curve_model.curve_spec a n }
     requires value { value ≡ (C.state curve.now).curve_model.curve_spec.track.value a }
@@ -29,6 +30,8 @@ pub fn is_quiet<C: Curve>(curve: &C, a: i64, n: u32, value: i128, end_value: i12
     is_quiet_by_rate(curve, a, n, value, end_value)
 }
 
+/// Returns true if the `n` minutes from minute `a` on can be one quiet cell; `value` and
+/// `end_value` are the curve's values at `a` and at `a + n`.
 fn is_quiet_by_rate<C: Curve>(curve: &C, a: i64, n: u32, value: i128, end_value: i128) -> bool
     requires span { IsSpan (C.state curve.now).curve_model.curve_spec a n }
     requires value { value ≡ (C.state curve.now).curve_model.curve_spec.track.value a }
@@ -44,9 +47,9 @@ fn is_quiet_by_rate<C: Curve>(curve: &C, a: i64, n: u32, value: i128, end_value:
     }
 }
 
-/// Returns the cell of the single minute `a`: with an event if the value changes its side of 0 by the
-/// next minute. `is_above` and `is_above_next` say whether the values at `a` and at `a + 1` are above
-/// 0.
+/// Returns the cell of the single minute `a`: with an event if exactly one of the values at `a` and
+/// at `a + 1` is above 0, otherwise without one. `is_above` and `is_above_next` say whether the
+/// values at `a` and at `a + 1` are above 0.
 pub fn cell_of_sides<C: Curve>(curve: &C, a: i64, is_above: bool, is_above_next: bool) -> Cell
     requires minute { IsMinute (C.state curve.now).curve_model.curve_spec a }
     requires side { is_above ≡ side_at (C.state curve.now).curve_model.curve_spec.track a }
@@ -62,8 +65,9 @@ pub fn cell_of_sides<C: Curve>(curve: &C, a: i64, is_above: bool, is_above_next:
     )
 }
 
-/// Returns true if `value` and `end_value`, `n` minutes apart, are on one side of 0, so far from it that
-/// a value that changes by at most `rate` a minute can't cross 0 between them.
+/// Returns true if `value` and `end_value`, `n` minutes apart, are on one side of 0, and a value
+/// that changes by at most `rate` in each minute can't cross 0 between them: both are above 0 and
+/// their sum exceeds `rate * n`, or neither is and minus their sum is at least `rate * n`.
 fn keeps_side(rate: i128, n: u32, value: i128, end_value: i128) -> bool
     requires positive { pos 0 ≤ℤ rate }
     requires rate { (rate *ℤ pos MOST_MINUTES) <ℤ pos (5 * 10 ^ 37) }
@@ -81,8 +85,9 @@ fn keeps_side(rate: i128, n: u32, value: i128, end_value: i128) -> bool
     }
 }
 
-/// Returns `rate * n`, the most that a value changes in `n` minutes, from 0 to [`MOST_MINUTES`].
-/// `rate`, the most in a minute, is not negative and below 5 * 10^37 / [`MOST_MINUTES`].
+/// Returns `rate * n`: a value that changes by at most `rate` in each minute changes by at most
+/// this in `n` minutes. `n` is from 0 to [`MOST_MINUTES`] (1,024), and `rate` isn't negative and is
+/// below 5 * 10^37 / 1,024, so the result is below 5 * 10^37.
 pub fn most_change(rate: i128, n: u32) -> i128
     requires positive { pos 0 ≤ℤ rate }
     requires rate { (rate *ℤ pos MOST_MINUTES) <ℤ pos (5 * 10 ^ 37) }

@@ -1,4 +1,4 @@
-//! Small curves for tests of crates that use curves.
+//! Two small curves for tests: a straight line, and a value that crosses zero in each minute.
 
 mod line;
 mod ripple;

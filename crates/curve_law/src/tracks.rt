@@ -2,14 +2,16 @@
 
 use crate::cells::Cells;
 
-/// The cells of a station's tracks over one span: of its high and low waters, and of its slack waters
-/// and its crossings of a mark if they are requested.
+/// The cells of a station's tracks over one span of time: of its high and low waters, and, if they
+/// are requested, of its slack waters and of the crossings of a mark (a level that the request
+/// names).
 #[derive(Drop)]
 pub struct Tracks {
-    /// The cells of high and low waters, or of greatest and least streams.
+    /// The cells of the high and low waters, or for a current of its greatest and least streams.
     pub turn: Cells,
-    /// The cells of slacks, a current's turns to flood and to ebb, or `None` if they aren't requested.
+    /// The cells of the slack waters, at which a current turns to flood or to ebb, or `None` if
+    /// they aren't requested.
     pub slack: Option<Cells>,
-    /// The cells of crossings of the mark, or `None` if there is no mark.
+    /// The cells of the crossings of the mark, or `None` if no mark is requested.
     pub mark: Option<Cells>,
 }

@@ -1,4 +1,5 @@
--- The small curves for tests meet the law of a curve.
+-- The small curves for tests are lawful (their values and changes are in the ranges of `IsLawful`),
+-- and their approximate values are within their errors.
 use Rattle.std.specs.Prelude.{◌≡◌, ◌^◌, ◌<◌, ◌≤◌, ℤ, pos, negsuc, ◌+ℤ◌, ◌-ℤ◌, ◌≤ℤ◌, unsigned_abs, Some, Bool, true, false, cond}
 use Rattle.std.specs.Int.{int_rem_euclid}
 use Rattle.std.specs.Ordering.{int_eq}

@@ -1,13 +1,14 @@
-//! A straight line.
+//! A curve for tests with the values of a straight line.
 
 ghost use Rattle.std.specs.Prelude.{◌≡◌, ◌^◌, ◌≤◌, unsigned_abs, pos, ◌+ℤ◌, ◌-ℤ◌, ◌≤ℤ◌, if◌then◌else◌};
 
 use crate::curve::Curve;
 use crate::kind::Kind;
 
-/// A curve for tests: its value rises or falls by 1 each minute, over the minutes from -1,000,000 to
-/// 1,000,000, both included. Its level is the minute, its rate may be greater than necessary, and each
-/// approximate value is 1 too high.
+/// A curve for tests: its value rises or falls by 1 each minute, over the minutes from -1,000,000
+/// to 1,000,000, both included. The level at a minute is the minute's number. The bound on the
+/// change in a minute is chosen by the caller, and each approximate value is 1 greater than the
+/// value.
 #[derive(Drop)]
 pub struct Line {
     start: i64,
@@ -22,9 +23,9 @@ pub struct Line {
 impl Line {
     ghost use Rattle.curve_law.specs.Samples.{line_model};
 
-    /// Returns the line that has the value `start` at minute 0, and falls by 1 each minute if `falls`,
-    /// and otherwise rises by 1. `rate` is the bound on its change in a minute. It is not yet
-    /// evaluated.
+    /// Returns the line with the value `start` (at most 10^12 in size) at minute 0, which falls by
+    /// 1 each minute if `falls` is true and otherwise rises by 1. `rate`, from 1 to 10^12, is its
+    /// bound on the change in a minute. The line hasn't been evaluated yet.
     pub fn new(start: i64, falls: bool, rate: i64) -> Line
         requires in_range { unsigned_abs start ≤ 10 ^ 12 }
         requires at_least_one { pos 1 ≤ℤ rate }
@@ -99,6 +100,7 @@ impl Curve for Line {
     }
 }
 
+/// Returns the value at minute `m` of the line with the value `start` at minute 0.
 fn height(start: i64, falls: bool, m: i64) -> i64
     requires start { unsigned_abs start ≤ 10 ^ 12 }
     requires minute { unsigned_abs m ≤ 10 ^ 6 }

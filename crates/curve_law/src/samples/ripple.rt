@@ -1,4 +1,4 @@
-//! A value that changes its side of zero after each minute.
+//! A curve for tests with a value that crosses zero in each minute.
 
 ghost use Rattle.std.specs.Prelude.{◌≡◌, ◌≤◌, unsigned_abs};
 ghost use Rattle.curve_law.specs.Samples.{ripple};
@@ -6,8 +6,9 @@ ghost use Rattle.curve_law.specs.Samples.{ripple};
 use crate::curve::Curve;
 use crate::kind::Kind;
 
-/// A curve for tests: its value is 1 at even minutes and -1 at odd ones, from -1,000,000 to 1,000,000,
-/// both included. It has no rate. Each approximate value is 0, which decides nothing.
+/// A curve for tests: its value is 1 at even minutes and -1 at odd ones, over the minutes from
+/// -1,000,000 to 1,000,000, both included. Its levels are 0, and it has no bound on its change.
+/// Each approximate value is 0, so the exact value must decide whether a value is above 0.
 #[derive(Default, Drop)]
 pub struct Ripple {
     evaluated: u64,
@@ -83,7 +84,7 @@ impl Curve for Ripple {
     }
 }
 
-/// Returns the value at minute `m`.
+/// Returns the value at minute `m`: 1 if `m` is even, and otherwise -1.
 fn wave(m: i64) -> i128
     ensures value { result ≡ ripple.track.value m }
     ensures size { unsigned_abs result ≤ 1 }
