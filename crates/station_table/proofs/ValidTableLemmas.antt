@@ -1,4 +1,4 @@
--- A table that was read is a valid table.
+-- A table that was read has valid names, offsets in their ranges, and fewer than 2^32 rows.
 use Rattle.std.proofs.Common.{◌≡◌, ℕ, zero, suc, ◌+◌, ◌≤◌, ◌==◌, ℤ, pos, negsuc, Bool, true, false, cond, ◌&&◌, ◌||◌, List, [], ◌∷◌, length, Option, Some, None, Result, Ok, Err, All, nat_le, refl, subst, arith}
 use Rattle.std.specs.Prelude.{int_lt, get_or}
 use Rattle.std.specs.List.{list_all}
@@ -211,6 +211,8 @@ unfolding records_from
 records_few cfg zero s xs = omega arith
 records_few cfg (suc n) s xs = next_few (records_from cfg n) n (next_record cfg s [] [] xs) (records_few cfg n)
 
+-- the table of a file of at most 400,000,000 bytes has valid names, offsets in their ranges, and
+-- fewer than 2^32 rows
 pub table_valid : (bytes : List ℕ) (table : List Offsets) → length bytes ≤ MOST_BYTES → table_of bytes ≡ Ok table → IsTable table
 unfolding table_of
 table_valid bytes table few ok =

@@ -1,4 +1,4 @@
--- The basis of a station's name: its reference station and its offsets (this project).
+-- The basis of a station's name: its reference station in the book, and its offsets (this project).
 use Rattle.std.specs.Prelude.{ℕ, pos, ◌<◌, Bool, ◌&&◌, is_none, position, List, Option, Some, None, Result, Ok, slice_get}
 use Rattle.std.specs.Option.{ForSome, ok_or}
 use Rattle.std.specs.Ordering.{int_eq}
@@ -16,68 +16,74 @@ use Rattle.station_table.specs.Offsets.{IsOffset, IsSlack}
 abbrev pub usual : Offset
 usual = record { add = pos 0; times = pos 1000000; plus = pos 0 }
 
--- two offsets are the same: their minutes, factors and heights are equal
+-- true if two offsets have the same minutes, factor and height
 abbrev pub is_same : Offset → Offset → Bool
 is_same a b = int_eq a.add b.add && int_eq a.times b.times && int_eq a.plus b.plus
 
--- high and low waters have the same offsets
+-- true if the offset of high waters is the same as the offset of low waters
 abbrev pub is_equal : Basis → Bool
 is_equal b = is_same b.high b.low
 
--- the station's events are its reference's, unchanged: the offsets change nothing, and there are no
--- times of slack water
+-- true if the station's events are its reference's, unchanged: the offsets of high and low waters
+-- change nothing, and there are no minutes for slack waters
 abbrev pub is_plain : Basis → Bool
 is_plain b = is_same b.high usual && is_same b.low usual && is_none b.slack
 
--- the index, counted from 0, of the book's first station called `name`, or None
+-- the index, counted from 0, of the book's first station called `name`; None if there is none
 abbrev pub station_at : Book → List ℕ → Option ℕ
 station_at book name = position (λ station. bytes_eq station.name name) book.stations
 
--- the index, counted from 0, of the table's first row called `name`, or None
+-- the index, counted from 0, of the table's first row called `name`; None if there is none
 abbrev pub row_at : List Offsets → List ℕ → Option ℕ
 row_at table name = position (λ row. bytes_eq row.name name) table
 
--- the basis of a reference station with this index
+-- the basis of the book's station with this index: its own reference, with offsets that change
+-- nothing
 abbrev pub reference_basis : ℕ → Basis
 reference_basis station = record { station = station; row = None; high = usual; low = usual; slack = None }
 
--- the basis of a subordinate station: the index of its row, the row, and the index of its reference
+-- the basis of the subordinate station in the row `offsets`, which has the index `row` in the table
+-- and as its reference the book's station with the index `station`
 abbrev pub subordinate_basis : ℕ → Offsets → ℕ → Basis
 subordinate_basis row offsets station =
     record { station = station; row = Some row; high = offsets.high; low = offsets.low; slack = offsets.slack }
 
--- the basis of the row at this index: its reference is the book's first station with the name that the
--- row gives; NoReference if there is none
+-- the basis of `offsets`, the table's row with the index `row`: its reference is the book's first
+-- station with the reference name of the row; NoReference with this index if the book has no such
+-- station
 unfoldable pub basis_over : Book → ℕ → Offsets → Result Basis FindFault
 basis_over book row offsets =
     ok_or (station_at book offsets.reference) (NoReference row)
     >>= λ station. Ok (subordinate_basis row offsets station)
 
--- the basis of the table's first row called `name`; NoStation if there is none
+-- the basis of the table's first row called `name`: NoStation if there is no such row, and
+-- NoReference with the row's index if the book has no station with the reference name of this row
 unfoldable pub basis_in : Book → List Offsets → List ℕ → Result Basis FindFault
 basis_in book table name = do
   row ← ok_or (row_at table name) NoStation
   offsets ← ok_or (slice_get table row) NoStation
   basis_over book row offsets
 
--- the basis of a reference station if there is an index, else the other result
+-- the basis of the book's station if there is an index of one, otherwise the result `subordinate`
 abbrev pub reference_or : Result Basis FindFault → Option ℕ → Result Basis FindFault
 reference_or subordinate (Some station) = Ok (reference_basis station)
 reference_or subordinate None = subordinate
 
--- the basis of the station called `name`: a station of the book takes precedence over a row of the
--- table
+-- the basis of the station called `name`: of the book's first such station, or, if the book has
+-- none, of the table's first such row (NoStation if there is none, NoReference if the book doesn't
+-- have the row's reference)
 unfoldable pub basis_of : Book → List Offsets → List ℕ → Result Basis FindFault
 basis_of book table name = reference_or (basis_in book table name) (station_at book name)
 
--- the reference is one of the book's `stations` stations, and the offsets are in the ranges of a table
+-- `IsBasis stations b`: the index of the reference is less than `stations`, the number of the
+-- book's stations, and the offsets are in their ranges (`IsOffset` and `IsSlack`)
 pub record IsBasis (stations : ℕ) (b : Basis) : Type 0 where
   pub station : b.station < stations
   pub high : IsOffset b.high
   pub low : IsOffset b.low
   pub slack : ForSome b.slack IsSlack
 
--- the row in a fault, if it has one, is an index below `rows`
+-- `IsFindFault rows fault`: the index of a row in the fault, if it has one, is less than `rows`
 abbrev pub IsFindFault : ℕ → FindFault → Type 0
 IsFindFault rows NoStation = Unit {0}
 IsFindFault rows (NoReference row) = row < rows

@@ -1,4 +1,4 @@
--- The validity of a table: the ranges of its fields (this project).
+-- Valid names and the ranges of the offsets of a table (this project).
 use Rattle.std.specs.Prelude.{ℕ, ℤ, pos, negsuc, ◌^◌, ◌<◌, ◌≤◌, ◌≢◌, List, length, All, IsUtf8}
 use Rattle.std.specs.Option.{ForSome}
 use Rattle.harmonics_book.specs.Books.{IsWithin}
@@ -6,30 +6,31 @@ use Rattle.station_table.specs.declared.offset.Offset.{Offset}
 use Rattle.station_table.specs.declared.offset.Slack.{Slack}
 use Rattle.station_table.specs.declared.offsets.Offsets.{Offsets}
 
--- a number of minutes added to a time, from -1440 to 1440
+-- `IsAdd add`: a number of minutes added to a time, from -1,440 to 1,440
 abbrev pub IsAdd : ℤ → Type 0
 IsAdd add = IsWithin (negsuc 1439) (pos 1440) add
 
--- an offset in its ranges: minutes from -1440 to 1440, a factor from 1 to 100,000,000 millionths, and a
--- height from -10,000,000,000 to 10,000,000,000 millionths
+-- the offset is in its ranges: minutes from -1,440 to 1,440, a factor from 1 to 100,000,000
+-- millionths, and a height from -10,000,000,000 to 10,000,000,000 millionths of the station's unit
 pub record IsOffset (o : Offset) : Type 0 where
   pub add : IsAdd o.add
   pub times : IsWithin (pos 1) (pos 100000000) o.times
   pub plus : IsWithin (negsuc 9999999999) (pos 10000000000) o.plus
 
--- the minutes added to times of slack water, each from -1440 to 1440
+-- the minutes added to the times of slack waters are each from -1,440 to 1,440
 pub record IsSlack (s : Slack) : Type 0 where
   pub flood_add : IsAdd s.flood_add
   pub ebb_add : IsAdd s.ebb_add
 
--- a name: UTF-8 text of 1 to 400 bytes, none of them a control byte of ASCII (below 32, or 127)
+-- the bytes are a name: UTF-8, 1 to 400 bytes, none of them a control byte of ASCII (below 32, or
+-- 127)
 pub record IsTableName (name : List ℕ) : Type 0 where
   pub text : IsUtf8 name
   pub some : 1 ≤ length name
   pub short : length name ≤ 400
   pub printable : All (λ b. (32 ≤ b) × (b ≢ 127)) name
 
--- a row with valid names and offsets
+-- both names of the row are valid, and its offsets are in their ranges
 pub record IsOffsets (o : Offsets) : Type 0 where
   pub name : IsTableName o.name
   pub reference : IsTableName o.reference
@@ -37,7 +38,7 @@ pub record IsOffsets (o : Offsets) : Type 0 where
   pub low : IsOffset o.low
   pub slack : ForSome o.slack IsSlack
 
--- a valid table: fewer than 2^32 valid rows
+-- the rows are a valid table: fewer than 2^32, each with valid names and offsets in their ranges
 pub record IsTable (rows : List Offsets) : Type 0 where
   pub few : length rows < 2 ^ 32
   pub each : All IsOffsets rows

@@ -1,4 +1,4 @@
--- The numbers and the texts of the faults of a row (this project).
+-- The number and the text of each reason why a row of an offset table is bad (this project).
 use Rattle.std.specs.Prelude.{ℕ, Bool, true, false, List, codes}
 use Rattle.station_table.specs.declared.fault.OffsetWhy.{OffsetWhy}
 use Rattle.station_table.specs.declared.fault.OffsetWhy.TheVariants.{
@@ -14,7 +14,7 @@ use Rattle.station_table.specs.declared.fault.OffsetWhy.TheVariants.{
 use Rattle.station_table.specs.declared.fault.OffsetFault.{OffsetFault}
 use Rattle.station_table.specs.declared.fault.OffsetFault.TheVariants.{NoMemory, At}
 
--- the number of each reason in the file format
+-- the number of each reason in the file format, from 1 to 8
 abbrev pub fault_number : OffsetWhy → ℕ
 fault_number BadHeader = 1
 fault_number FieldCount = 2
@@ -36,7 +36,7 @@ text_of NotUtf8 = codes "not UTF-8"
 text_of BadName = codes "bad name"
 text_of HalfSlack = codes "half slack"
 
--- a fault of reading a table is that memory ran out
+-- true if the fault of reading a table is that memory ran out
 abbrev pub is_out_of_memory : OffsetFault → Bool
 is_out_of_memory NoMemory = true
 is_out_of_memory (At row why) = false

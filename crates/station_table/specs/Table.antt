@@ -1,5 +1,5 @@
--- The offset table of a CSV file: its header, and a station in each row after it (this project; RFC 4180
--- for the records).
+-- The offset table that the bytes of a CSV file write: a header, and a station in each row after it
+-- (this project; RFC 4180 for the records).
 use Rattle.std.specs.Prelude.{
   ℕ,
   ◌+◌,
@@ -38,7 +38,7 @@ use Rattle.station_table.specs.Fields.{name_of, add_of, times_of, plus_of}
 
 -- ---- the header
 
--- the names of the columns of a table without times of slack water
+-- the names of the eight columns of a table without minutes for slack waters
 abbrev pub plain_columns : List (List ℕ)
 plain_columns =
     codes "name" ∷ codes "reference" ∷ codes "high_add" ∷ codes "low_add"
@@ -49,11 +49,12 @@ abbrev pub columns_of : Header → List (List ℕ)
 columns_of Plain = plain_columns
 columns_of WithSlack = plain_columns ++ codes "flood_add" ∷ codes "ebb_add" ∷ []
 
--- the fields of a record are the names of the header's columns
+-- true if the fields of a record are exactly the column names of the header
 abbrev pub has_columns : Header → List (List ℕ) → Bool
 has_columns header fields = pointwise bytes_eq fields (columns_of header)
 
--- the header in a record, or the fault of a file without a header
+-- the header in the fields of a file's first record; BadHeader in row 1 if they aren't the columns
+-- of one
 unfoldable pub header_of : List (List ℕ) → Result Header OffsetFault
 header_of fields =
     if has_columns Plain fields then Ok Plain
@@ -62,21 +63,24 @@ header_of fields =
 
 -- ---- a row
 
--- the field of a record in a column, counted from 0; no bytes if the record has fewer fields
+-- the field of a record in a column, counted from 0; no bytes if the record has too few fields
 abbrev pub field_of : List (List ℕ) → ℕ → List ℕ
 field_of fields column = slice_index_or fields column []
 
+-- true if the field has no bytes
 abbrev pub is_empty : List ℕ → Bool
 is_empty field = length field == 0
 
--- both times of slack water, or None if both fields are empty; a fault if only one is
+-- the minutes `slack` if neither field is empty, None if both fields are empty (the first two
+-- arguments say whether each is), and HalfSlack if exactly one is
 abbrev pub both_or_none : Bool → Bool → Slack → Result (Option Slack) OffsetWhy
 both_or_none true true slack = Ok None
 both_or_none false false slack = Ok (Some slack)
 both_or_none _ _ slack = Err HalfSlack
 
--- the minutes added to times of slack water in a row, None if it has none, or the reason why they are
--- bad
+-- the minutes added to the times of slack waters in a row: None if both fields are empty or the
+-- table has no such columns, and the reason why a field is bad, or HalfSlack if exactly one is
+-- empty
 unfoldable pub slack_of : Header → List (List ℕ) → Result (Option Slack) OffsetWhy
 slack_of Plain fields = Ok None
 slack_of WithSlack fields = do
@@ -84,11 +88,12 @@ slack_of WithSlack fields = do
   ebb_add ← add_of (field_of fields 9)
   both_or_none (is_empty (field_of fields 8)) (is_empty (field_of fields 9)) (record { flood_add = flood_add; ebb_add = ebb_add })
 
--- the row has as many fields as the header has columns, or FieldCount
+-- succeeds if the row has as many fields as the header has columns, and otherwise is FieldCount
 abbrev pub counted : Header → List (List ℕ) → Result (Unit {0}) OffsetWhy
 counted header fields = if length fields == length (columns_of header) then Ok tt else Err FieldCount
 
--- the station of a row: the number of fields is tested first, then each field from left to right
+-- the station in the fields of a row, or the first reason why the row is bad: first the number of
+-- fields, then each field from left to right, then HalfSlack
 unfoldable pub offsets_of : Header → List (List ℕ) → Result Offsets OffsetWhy
 offsets_of header fields = do
   all ← counted header fields
@@ -111,12 +116,12 @@ offsets_of header fields = do
 
 -- ---- the table
 
--- a row's value, or its fault with the number of the row
+-- the value, or the fault of the row with the number `row` for this reason
 abbrev pub at_row : {A : Type 0} → ℕ → Result A OffsetWhy → Result A OffsetFault
 at_row row (Ok value) = Ok value
 at_row row (Err why) = Err (At row why)
 
--- the stations of the rows from number `row` on, or the first fault
+-- the stations in rows, of which the first has the number `row`, or the fault of the first bad row
 unfoldable pub rows_from : Header → ℕ → List (List (List ℕ)) → Result (List Offsets) OffsetFault
 rows_from header row [] = Ok []
 rows_from header row (fields ∷ more) = do
@@ -124,12 +129,13 @@ rows_from header row (fields ∷ more) = do
   rest ← rows_from header (row + 1) more
   Ok (first ∷ rest)
 
--- the table of the records, of which the first is the header, or the first fault; rows are counted from
--- the header, which is row 1
+-- the table of a list of records, of which the first is the header, or its first fault; rows are
+-- counted from the header, which is row 1, and without any record the fault is BadHeader in row 1
 unfoldable pub table_in : List (List (List ℕ)) → Result (List Offsets) OffsetFault
 table_in [] = Err (At 1 BadHeader)
 table_in (names ∷ rows) = header_of names >>= λ header. rows_from header 2 rows
 
--- the table of a file's bytes, cut into records as the crate `csv` does, or the first fault
+-- the table that a file's bytes write, or its first fault; the bytes are cut into records as the
+-- crate `csv` does, without a byte order mark at their beginning
 unfoldable pub table_of : List ℕ → Result (List Offsets) OffsetFault
 table_of bytes = table_in (records default_config (strip_bom bytes))

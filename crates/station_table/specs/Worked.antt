@@ -1,4 +1,5 @@
--- A small table, its stations, and the faults of changed rows (this project).
+-- A small file of offsets, its stations, and changed rows with their faults, for examples (this
+-- project).
 use Rattle.std.specs.Prelude.{ℕ, pos, negsuc, List, [], ◌∷◌, ◌++◌, codes, Some, None, slice_set}
 use Rattle.station_table.specs.declared.fault.OffsetWhy.{OffsetWhy}
 use Rattle.station_table.specs.declared.fault.OffsetWhy.TheVariants.{BadNumber, TooFine, OutOfRange, NotUtf8, BadName, HalfSlack}
@@ -6,33 +7,34 @@ use Rattle.station_table.specs.declared.offset.Offset.{Offset}
 use Rattle.station_table.specs.declared.offsets.Offsets.{Offsets}
 use Rattle.station_table.specs.Bases.{usual}
 
--- the header without times of slack water
+-- the header of a table without minutes for slack waters
 abbrev pub plain_header : List ℕ
 plain_header = codes "name,reference,high_add,low_add,high_times,low_times,high_plus,low_plus"
 
--- the header with times of slack water
+-- the header of a table with minutes for slack waters
 abbrev pub slack_header : List ℕ
 slack_header = plain_header ++ codes ",flood_add,ebb_add"
 
--- a file with two stations whose reference is the pier, and one whose reference isn't in the book
+-- a file of three stations: two with the pier as their reference, and one with a reference that
+-- isn't in the book
 abbrev pub dock_file : List ℕ
 dock_file =
     plain_header ++ codes "\nDock,Pier,0:30,-0:10,1.1,0.9,0.1,0\nOuter,Pier,0:30,0:30,2,2,0.5,0.5\n"
     ++ codes "Lost,Nowhere,0:00,0:00,1,1,0,0\n"
 
--- the offset of the dock's highs: 30 minutes later, 1.1 times the level plus 0.1
+-- the offset of the dock's high waters: 30 minutes later, 1.1 times the level plus 0.1
 abbrev pub dock_high : Offset
 dock_high = record { add = pos 30; times = pos 1100000; plus = pos 100000 }
 
--- the offset of the dock's lows: 10 minutes earlier, 0.9 times the level
+-- the offset of the dock's low waters: 10 minutes earlier (`negsuc 9` is -10), 0.9 times the level
 abbrev pub dock_low : Offset
 dock_low = record { add = negsuc 9; times = pos 900000; plus = pos 0 }
 
--- the offset of the outer station's highs and lows: 30 minutes later, twice the level plus 0.5
+-- the offset of the outer station's high and low waters: 30 minutes later, twice the level plus 0.5
 abbrev pub outer : Offset
 outer = record { add = pos 30; times = pos 2000000; plus = pos 500000 }
 
--- the three stations of dock_file
+-- the three stations of `dock_file`
 abbrev pub dock_rows : List Offsets
 dock_rows =
     record { name = codes "Dock"; reference = codes "Pier"; high = dock_high; low = dock_low; slack = None }
@@ -40,14 +42,14 @@ dock_rows =
     ∷ record { name = codes "Lost"; reference = codes "Nowhere"; high = usual; low = usual; slack = None }
     ∷ []
 
--- the fields of a row with times of slack water: the dock's, 5 minutes later before a flood and 5
--- earlier before an ebb
+-- the fields of a row with minutes for slack waters: the dock's offsets, with slack waters 5
+-- minutes later before a flood and 5 minutes earlier before an ebb
 abbrev pub gate_fields : List (List ℕ)
 gate_fields =
     codes "Gate" ∷ codes "Pier" ∷ codes "0:30" ∷ codes "-0:10" ∷ codes "1.1" ∷ codes "0.9" ∷ codes "0.1" ∷ codes "0"
     ∷ codes "0:05" ∷ codes "-0:05" ∷ []
 
--- the station of the row gate_fields
+-- the station in the row `gate_fields`
 abbrev pub gate_row : Offsets
 gate_row = record {
   name = codes "Gate";
@@ -57,20 +59,25 @@ gate_row = record {
   slack = Some (record { flood_add = pos 5; ebb_add = negsuc 4 });
 }
 
--- a change of a row: the index of a field, its new text, and the fault of the changed row
+-- a change of one field of a row: the index of the field, counted from 0, its new bytes, and the
+-- reason why the changed row is bad
 pub record Change : Type 0 where
   pub column : ℕ
   pub text : List ℕ
   pub why : OffsetWhy
 
+-- the change of the field at the index `column` to `text`, after which the row is bad for the
+-- reason `why`
 abbrev pub change : ℕ → List ℕ → OffsetWhy → Change
 change column text why = record { column = column; text = text; why = why }
 
--- the row gate_fields with one field changed
+-- the fields `gate_fields` with one field changed
 abbrev pub gate_with : Change → List (List ℕ)
 gate_with c = slice_set gate_fields c.column c.text
 
--- changes of the row by one field, each with the fault of the changed row
+-- changes of one field of the row `gate_fields`, each with the reason why the changed row is bad:
+-- names that are empty, have a control byte or aren't UTF-8, then minutes, factors and heights in a
+-- wrong form or out of range, and an empty or wrong field of slack water
 abbrev pub changes : List Change
 changes =
     change 0 [] BadName

@@ -1,4 +1,4 @@
-//! One row of a table.
+//! One row of a table of offsets.
 
 ghost use Rattle.std.specs.Prelude.{◌≡◌, IfOk};
 ghost use Rattle.std.specs.Option.{ForSome};
@@ -16,7 +16,8 @@ use csv::ByteRecord;
 use decimal_text::Text;
 use std::alloc::{AllocError, Global};
 
-/// A valid row of a table of offsets. Its names are borrowed from the record that it was read from.
+/// A valid row of a table of offsets. Its names are borrowed from the CSV record that it was read
+/// from.
 #[derive(Clone, Copy)]
 pub struct BorrowedOffsets<'a> {
     pub name: &'a str,
@@ -26,11 +27,16 @@ pub struct BorrowedOffsets<'a> {
     pub slack: Option<Slack>,
 }
 
-/// Returns the row in the record `fields` of a table with the columns of `header`.
+/// Returns the row in `fields`, a record of a table with the columns of `header`.
 ///
 /// # Errors
-/// [`OffsetWhy::FieldCount`] if the record has another number of fields than the header; otherwise the
-/// [`OffsetWhy`] of the first bad field from left to right.
+/// - [`OffsetWhy::FieldCount`]: when the record has another number of fields than the header has
+///   columns.
+/// - [`OffsetWhy::NotUtf8`], [`OffsetWhy::BadName`], [`OffsetWhy::BadNumber`],
+///   [`OffsetWhy::TooFine`] or [`OffsetWhy::OutOfRange`]: when the number of fields is right, for
+///   the first bad field from left to right.
+/// - [`OffsetWhy::HalfSlack`]: when each field is good, but exactly one of the two times of slack
+///   water is empty.
 #[tactic(auto, unfolding(crate::specs::Table::offsets_of))]
 pub fn row_of(fields: &ByteRecord, header: Header) -> Result<BorrowedOffsets<'_>, OffsetWhy>
     ensures exact { Reads offsets_in (offsets_of header (fields_of fields.now)) result }
@@ -65,8 +71,8 @@ pub fn row_of(fields: &ByteRecord, header: Header) -> Result<BorrowedOffsets<'_>
     })
 }
 
-/// Returns the times of slack water, or `None` if both fields are empty or the table has no such
-/// columns.
+/// Returns the minutes added to the times of slack water, or `None` if both fields are empty or the
+/// table has no such columns.
 #[tactic(auto, unfolding(crate::specs::Table::slack_of))]
 fn slack(fields: &ByteRecord, header: Header) -> Result<Option<Slack>, OffsetWhy>
     ensures exact { result ≡ slack_of header (fields_of fields.now) }
@@ -89,10 +95,10 @@ fn slack(fields: &ByteRecord, header: Header) -> Result<Option<Slack>, OffsetWhy
 }
 
 impl BorrowedOffsets<'_> {
-    /// Returns the row as a station that owns its names.
+    /// Returns the same row with its own copies of the names.
     ///
     /// # Errors
-    /// [`AllocError`] if memory runs out.
+    /// - [`AllocError`]: when memory runs out.
     pub fn to_offsets(&self, alloc: Global) -> Result<Offsets, AllocError>
         ensures { IfOk result (λ offsets. offsets ≡ offsets_in self.now) }
     {

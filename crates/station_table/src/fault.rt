@@ -1,16 +1,17 @@
-//! The faults of a table of offsets.
+//! The faults of a file of offsets.
 
 use std::alloc::AllocError;
 
-/// The reason why a row of a table of offsets is bad. The file format numbers these reasons from 1
-/// (docs/FORMATS.md).
+/// The reason why a row of a file of offsets is bad. Each reason has a number in the file format,
+/// from 1 in this order (docs/FORMATS.md).
 #[derive(Clone, Copy, Debug, PartialEq, Eq)]
 pub enum OffsetWhy {
-    /// The first record isn't a header, or the file is empty.
+    /// The first record isn't the row of column names, or the file has no record.
     BadHeader,
-    /// The row has a different number of fields than the header.
+    /// The row has another number of fields than the header.
     FieldCount,
-    /// A number isn't in the form of its field: a decimal, or hours and minutes.
+    /// A field for minutes isn't of the form `H:MM` or `HH:MM` with an optional sign, or a field
+    /// for a factor or a height isn't a decimal with at most 18 digits before its point.
     BadNumber,
     /// A factor or a height has a digit other than 0 after its sixth decimal place.
     TooFine,
@@ -20,7 +21,7 @@ pub enum OffsetWhy {
     NotUtf8,
     /// A name is empty, longer than 400 bytes, or has a control byte of ASCII (below 32, or 127).
     BadName,
-    /// Only one of the two times of slack water is given.
+    /// Exactly one of the two times of slack water is given.
     HalfSlack,
 }
 
@@ -66,8 +67,9 @@ impl OffsetWhy {
 pub enum OffsetFault {
     /// Memory ran out while the table was read.
     NoMemory,
-    /// The first row that breaks a rule, and the first reason why it does. Rows are counted from the
-    /// header, which is row 1; a file without a header has its fault in row 1.
+    /// The number `row` of the first row that breaks a rule, and `why`, the first reason why it
+    /// does. The header is row 1, and blank lines aren't counted; a file without a header has its
+    /// fault in row 1.
     At { row: u32, why: OffsetWhy },
 }
 

@@ -1,4 +1,4 @@
-//! Finding the basis of a station by its name.
+//! Finding a station by its name: its reference station and its offsets.
 
 ghost use Rattle.std.specs.Prelude.{◌≡◌, ◌<◌, IfOk, IfErr, IfSome, length};
 ghost use Rattle.harmonics_book.specs.Books.{IsBook};
@@ -12,23 +12,25 @@ use crate::table::OffsetTable;
 use decimal_text::Text;
 use harmonics_book::{Book, ValidBook};
 
-/// The reason why the station of a name couldn't be found.
+/// The reason why a name has no basis (a reference station and offsets).
 #[derive(Clone, Copy, Debug, PartialEq, Eq)]
 pub enum FindFault {
     /// Neither the book nor the table has a station with the name.
     NoStation,
-    /// The book doesn't have the reference station of row `row`, an index of the table's list counted
-    /// from 0.
+    /// The book doesn't have the name. The first row of the table with this name has the index
+    /// `row`, counted from 0, and the book doesn't have the reference station that this row names.
     NoReference { row: u32 },
 }
 
-/// Returns the basis of the station `name`, that is, its reference and its offsets: the first station
-/// `name` of the book; otherwise the first row `name` of the table, with the first station of the book
-/// that has the name of the row's reference. It doesn't allocate.
+/// Returns the basis of the station `name`: its reference station in `book` and its offsets. If the
+/// book has a station `name`, the first one is its own reference, without offsets. Otherwise the
+/// basis is the first row `name` of `table`, with the first station of the book that has the row's
+/// reference name. It doesn't allocate.
 ///
 /// # Errors
-/// [`FindFault::NoStation`] if neither the book nor the table has `name`; [`FindFault::NoReference`] if
-/// the book doesn't have the reference of the row.
+/// - [`FindFault::NoStation`]: when neither the book nor the table has `name`.
+/// - [`FindFault::NoReference`]: when the book doesn't have `name`, and the first row `name` of the
+///   table names a reference that the book doesn't have.
 ///
 /// # Examples
 /// ```
@@ -62,7 +64,8 @@ pub fn find(book: &Book, table: &OffsetTable, name: &Text) -> Result<Basis, Find
     }
 }
 
-/// Returns the basis of the first row `name` of the table.
+/// Returns the basis of the first row `name` of `table`. The errors are [`FindFault::NoStation`] if
+/// there is no such row, and [`FindFault::NoReference`] if the book doesn't have its reference.
 #[tactic(auto, unfolding(crate::specs::Bases::basis_in))]
 fn find_row(book: &ValidBook<'_>, table: &OffsetTable, name: &Text) -> Result<Basis, FindFault>
     ensures exact { result ≡ basis_in book.now table.now name.now }
@@ -76,7 +79,8 @@ fn find_row(book: &ValidBook<'_>, table: &OffsetTable, name: &Text) -> Result<Ba
     }
 }
 
-/// Returns the basis of `offsets`, the row with index `row`.
+/// Returns the basis of `offsets`, the row of the table with index `row`, or
+/// [`FindFault::NoReference`] if the book doesn't have its reference.
 #[tactic(auto, unfolding(crate::specs::Bases::basis_over))]
 fn basis_over(book: &ValidBook<'_>, row: u32, offsets: &Offsets) -> Result<Basis, FindFault>
     requires valid { IsOffsets offsets.now }
@@ -96,7 +100,8 @@ fn basis_over(book: &ValidBook<'_>, row: u32, offsets: &Offsets) -> Result<Basis
     }
 }
 
-/// Returns the index of the first station called `name`, or `None` if there isn't one.
+/// Returns the index, counted from 0, of the book's first station called `name`, or `None` if there
+/// is none.
 fn station_place(book: &Book, name: &Text) -> Option<usize>
     ensures exact { result ≡ station_at book.now name.now }
     ensures index { IfSome result (λ index. index < length book.now.stations) }
@@ -107,7 +112,7 @@ fn station_place(book: &Book, name: &Text) -> Option<usize>
         .position(|station| station.name.as_str() == name.as_str())
 }
 
-/// Returns the index of the first row called `name`, or `None` if there isn't one.
+/// Returns the index, counted from 0, of the first row called `name`, or `None` if there is none.
 fn row_place(rows: &[Offsets], name: &Text) -> Option<usize>
     ensures exact { result ≡ row_at rows.now name.now }
     ensures index { IfSome result (λ index. index < length rows.now) }

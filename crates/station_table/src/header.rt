@@ -1,4 +1,4 @@
-//! The header of a table.
+//! The header of a table of offsets: the row of column names.
 
 ghost use Rattle.std.specs.Prelude.{◌≡◌, map, length, slice_index_or, [], List, ℕ};
 ghost use Rattle.std.specs.Cmp.Lexicographic.{pointwise};
@@ -12,9 +12,9 @@ use csv::ByteRecord;
 /// The header of a table of offsets, which says which columns it has.
 #[derive(Clone, Copy)]
 pub enum Header {
-    /// The columns of a table with only offsets of high and low waters.
+    /// The eight columns of a table with only offsets of high and low waters.
     Plain,
-    /// The columns of a table with offsets of high and low waters, and with times of slack water.
+    /// The ten columns of a table that also has minutes for slack waters.
     WithSlack,
 }
 
@@ -32,7 +32,7 @@ static COLUMNS: [&str; 10] = [
 ];
 
 impl Header {
-    /// Returns the number of columns of a table with this header.
+    /// Returns the number of columns of a table with this header: 8 or 10.
     pub fn count(self) -> usize
         ensures { result ≡ length (columns_of self) }
     {
@@ -43,7 +43,7 @@ impl Header {
     }
 }
 
-/// Returns the field in `column`, counted from 0, of a record, or no bytes if the record has fewer
+/// Returns the field of a record in `column`, counted from 0, or no bytes if the record has too few
 /// fields.
 pub fn field(fields: &ByteRecord, column: usize) -> &[u8]
     ensures { result.now ≡ field_of (fields_of fields.now) column }
@@ -54,7 +54,7 @@ pub fn field(fields: &ByteRecord, column: usize) -> &[u8]
     }
 }
 
-/// Returns true if the fields of a record are exactly `names`.
+/// Returns true if the fields of a record are exactly `names`, in this order.
 fn has_names(fields: &ByteRecord, names: &[&str]) -> bool
     ensures { result ≡ pointwise bytes_eq (fields_of fields.now) (map (λ name. name.now) names.now) }
 {
@@ -69,6 +69,7 @@ fn has_names(fields: &ByteRecord, names: &[&str]) -> bool
     true
 }
 
+/// Returns true if the fields of a record are exactly the column names of `header`.
 fn has_columns(fields: &ByteRecord, header: Header) -> bool
     ensures { result ≡ has_columns header (fields_of fields.now) }
 {
@@ -78,11 +79,11 @@ fn has_columns(fields: &ByteRecord, header: Header) -> bool
     }
 }
 
-/// Parses `fields`, the first record of a table, as its header.
+/// Returns the header in `fields`, the first record of a file.
 ///
 /// # Errors
-/// [`OffsetFault::At`] with row 1 and [`OffsetWhy::BadHeader`] if `fields` aren't the names of the
-/// columns of a table.
+/// - [`OffsetFault::At`] with row 1 and [`OffsetWhy::BadHeader`]: when `fields` aren't exactly the
+///   column names of a table with or without minutes for slack waters.
 #[tactic(auto, unfolding(crate::specs::Table::header_of))]
 pub fn header_of(fields: &ByteRecord) -> Result<Header, OffsetFault>
     ensures { result ≡ header_of (fields_of fields.now) }
@@ -96,7 +97,8 @@ pub fn header_of(fields: &ByteRecord) -> Result<Header, OffsetFault>
     }
 }
 
-/// The fault of a file in which the first record isn't a header: a bad header in row 1.
+/// The fault of a file in which the first record isn't a header, or which has no record: a bad
+/// header in row 1.
 pub const NO_HEADER: OffsetFault = OffsetFault::At {
     row: 1,
     why: OffsetWhy::BadHeader,

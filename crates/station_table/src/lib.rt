@@ -1,8 +1,10 @@
-//! Subordinate stations: a table of their offsets from reference stations.
+//! Subordinate stations (predicted by offsets from a reference station) and the table of their
+//! offsets.
 //!
-//! [`read_offsets`] reads an [`OffsetTable`] from a CSV file: a row for each station, with the minutes
-//! that are added to the times of its high and low waters, and the factors and levels that change their
-//! levels. [`find`] returns the [`Basis`] of a name: its reference station in a book, and its offsets.
+//! [`read_offsets`] reads an [`OffsetTable`] from a CSV file with a row for each station: the
+//! minutes that are added to the times of the reference's high and low waters, and the factors and
+//! heights that change their levels. [`find`] returns the [`Basis`] of a station's name: the
+//! reference station in a book of harmonic constants, and the offsets.
 #![tactic(auto)]
 
 mod basis;

@@ -1,19 +1,21 @@
-//! Offsets of a station's events from the events of its reference.
+//! Offsets from the events of a reference station to the events of a subordinate station.
 
-/// The change from the high or low waters of a reference station to a subordinate station's.
+/// The change from a reference station's high or low waters to a subordinate station's: minutes are
+/// added to the time, and the level is multiplied by a factor and then a height is added.
 #[derive(Clone, Copy, PartialEq, Eq)]
 pub struct Offset {
-    /// The minutes added to the times of the high or low waters, from -1440 to 1440.
+    /// The minutes added to the time, from -1,440 to 1,440.
     pub add: i32,
-    /// The factor of the reference's levels, in millionths, from 1 to 100,000,000.
+    /// The factor of the level, in millionths, from 1 to 100,000,000.
     pub times: i64,
-    /// The height added to a level after that, in millionths of the station's unit, from
+    /// The height added to the multiplied level, in millionths of the station's unit, from
     /// -10,000,000,000 to 10,000,000,000.
     pub plus: i64,
 }
 
 impl Offset {
-    /// The offset that changes nothing: 0 minutes, a factor of 1,000,000 millionths and a height of 0.
+    /// The offset that changes nothing: 0 minutes, a factor of 1,000,000 millionths and a height of
+    /// 0.
     pub const USUAL: Offset = Offset {
         add: 0,
         times: 1_000_000,
@@ -21,11 +23,11 @@ impl Offset {
     };
 }
 
-/// The minutes added to the times of the reference's slack waters, each from -1440 to 1440.
+/// The minutes added to the times of a reference station's slack waters, each from -1,440 to 1,440.
 #[derive(Clone, Copy, PartialEq, Eq)]
 pub struct Slack {
-    /// The minutes added to the times of slack water before a flood, from -1440 to 1440.
+    /// The minutes added to the times of slack water before a flood, from -1,440 to 1,440.
     pub flood_add: i32,
-    /// The minutes added to the times of slack water before an ebb, from -1440 to 1440.
+    /// The minutes added to the times of slack water before an ebb, from -1,440 to 1,440.
     pub ebb_add: i32,
 }

@@ -1,4 +1,4 @@
-//! Reading a table of offsets.
+//! Reading a table of offsets from the bytes of a CSV file.
 
 ghost use Rattle.std.specs.Prelude.{◌≡◌, ◌≤◌, ℕ, List, [], length, IfOk};
 ghost use Rattle.decimal_text.specs.Expected.{EqualsUnlessNoMemory};
@@ -17,20 +17,20 @@ use crate::table::OffsetTable;
 use csv::{ByteRecord, ByteRecordsIntoIter, ReaderBuilder};
 use std::alloc::Global;
 
-/// Parses `bytes` as a CSV file of offsets, and returns its table.
+/// Parses `bytes`, at most 400,000,000, as a CSV file of offsets, and returns its table.
 ///
 /// The first record is the header:
-/// `name,reference,high_add,low_add,high_times,low_times,high_plus,low_plus`, which may be followed by
-/// `,flood_add,ebb_add`. Each later record is a station. Names have 1 to 400 bytes of UTF-8 without
-/// control bytes of ASCII. Times to add are written as `-0:10`, at most 24:00 either way. Factors are
-/// decimals from 0.000001 to 100, and heights to add are decimals from -10000 to 10000 in the station's
-/// unit. An empty field changes nothing; both times of slack water are empty or neither is.
-///
-/// `bytes`, at most 400,000,000, are read once.
+/// `name,reference,high_add,low_add,high_times,low_times,high_plus,low_plus`, which may be followed
+/// by `,flood_add,ebb_add`. Each later record is a station. Names have 1 to 400 bytes of UTF-8
+/// without control bytes of ASCII. Minutes to add are written as `-0:10`, at most 24:00 either way.
+/// Factors are decimals from 0.000001 to 100, and heights to add are decimals from -10000 to 10000
+/// in the station's unit. An empty field after the two names changes nothing; the two fields of
+/// slack water are both empty or both filled.
 ///
 /// # Errors
-/// [`OffsetFault::At`] with the first row that breaks a rule, counted from the header, which is row 1,
-/// and the first reason why it does; [`OffsetFault::NoMemory`] if memory runs out.
+/// - [`OffsetFault::At`]: when a row breaks a rule, with the first such row, counted from the
+///   header, which is row 1, and the first reason why it does.
+/// - [`OffsetFault::NoMemory`]: when memory runs out.
 ///
 /// # Examples
 /// ```
@@ -49,7 +49,7 @@ pub fn read_offsets(alloc: Global, bytes: &[u8]) -> Result<OffsetTable, OffsetFa
     table
 }
 
-/// Reads the header and the rows after it.
+/// Reads the header and the rows after it, and returns the table.
 fn read_table(
     alloc: Global,
     records: &mut ByteRecordsIntoIter<&[u8]>,
@@ -61,8 +61,8 @@ fn read_table(
     read_rows(alloc, records, header)
 }
 
-/// Returns an iterator over the records of the CSV text `bytes`, before its first record. A record may
-/// have any number of fields.
+/// Returns an iterator over the records of the CSV text `bytes`, before its first record. A record
+/// may have any number of fields.
 fn records_of(alloc: Global, bytes: &[u8]) -> ByteRecordsIntoIter<&[u8]>
     ensures { HasGiven bytes.now [] result }
 {
@@ -73,7 +73,8 @@ fn records_of(alloc: Global, bytes: &[u8]) -> ByteRecordsIntoIter<&[u8]>
         .into_byte_records()
 }
 
-/// Reads the header, the first record.
+/// Returns the header in the next record, the first of the file; the fault is a bad header in row
+/// 1, or that memory ran out.
 fn read_header(records: &mut ByteRecordsIntoIter<&[u8]>) -> Result<Header, OffsetFault>
     ensures { (text : List ℕ) → HasGiven text [] records.old → ReturnsHeader text records.new result }
 {
@@ -84,7 +85,7 @@ fn read_header(records: &mut ByteRecordsIntoIter<&[u8]>) -> Result<Header, Offse
     }
 }
 
-/// Reads the rows after the header.
+/// Returns the table of the remaining records, the rows after the header.
 fn read_rows(
     alloc: Global,
     records: &mut ByteRecordsIntoIter<&[u8]>,
@@ -105,7 +106,8 @@ fn read_rows(
     Ok(table)
 }
 
-/// Returns the station of the row with number `row`.
+/// Returns the station in `fields`, the row with the number `row` (the header is row 1). The fault
+/// has this number, or is that memory ran out.
 fn offsets_at(
     alloc: Global,
     row: u32,

@@ -1,4 +1,4 @@
-//! The list of a table's stations.
+//! The list of the subordinate stations of a table.
 
 ghost use Rattle.std.specs.Prelude.{◌≡◌, ◌+◌, ◌^◌, ◌<◌, [], ◌∷◌, ◌++◌, length, OnOk};
 ghost use Rattle.station_table.specs.Offsets.{IsOffsets, IsTable};
@@ -7,8 +7,9 @@ use crate::offsets::Offsets;
 use std::alloc::{AllocError, Global};
 use std::marker::Model;
 
-/// The subordinate stations of a file of offsets, in the file's order: fewer than 2^32, with names and
-/// offsets in their ranges.
+/// The subordinate stations of a file of offsets, in the file's order: fewer than 2^32 rows, each
+/// with valid names and with offsets in their ranges. In contracts its value is the list of the
+/// rows.
 #[derive(Drop)]
 pub struct OffsetTable {
     rows: Vec<Offsets>,
@@ -37,7 +38,11 @@ impl OffsetTable {
         }
     }
 
-    /// Appends `row`, a row with valid names and offsets, as the last row.
+    /// Appends `row`, with valid names and offsets in their ranges, as the last row. The table has
+    /// fewer than 2^32 rows afterwards.
+    ///
+    /// # Errors
+    /// - [`AllocError`]: when memory runs out.
     pub(crate) fn push(&mut self, row: Offsets) -> Result<(), AllocError>
         requires count_bound { length self.old + 1 < 2 ^ 32 }
         requires valid { IsOffsets row }
@@ -47,15 +52,15 @@ impl OffsetTable {
         Ok(())
     }
 
-    /// Does nothing. Its contract says that there are fewer than 2^32 rows, and that their names and
-    /// offsets are in their ranges.
+    /// Does nothing. Its contract says that there are fewer than 2^32 rows, and that the names of
+    /// each row are valid and its offsets in their ranges.
     pub fn ranges_hold(&self)
         ensures { IsTable self.now }
     {
         let _rows = &self.rows;
     }
 
-    /// Borrows the rows as a slice.
+    /// Borrows the rows as a slice, in the file's order.
     pub fn as_slice(&self) -> &[Offsets]
         ensures exact { result.now ≡ self.now }
         ensures valid { IsTable self.now }

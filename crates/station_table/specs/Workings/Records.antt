@@ -1,4 +1,4 @@
--- The state of reading the records of a text.
+-- The state of reading the records of a CSV text.
 use Rattle.std.specs.Prelude.{◌≡◌, ℕ, ◌<◌, List, [], ◌∷◌, Option, Some, Result, Ok, Err}
 use Rattle.std.specs.Borrow.{Bor}
 use Rattle.csv.specs.Reading.{
@@ -26,11 +26,13 @@ use Rattle.station_table.specs.Table.{header_of, table_of}
 abbrev pub Records : Type 0
 Records = ByteRecordsIntoIter (Bor (List ℕ))
 
--- the known bytes of a borrowed slice
+-- the bytes of a borrowed slice, which are known
 abbrev pub held : Bor (List ℕ) → Option (List ℕ)
 held bytes = Some bytes.now
 
--- the reader has returned these records of the text
+-- `HasGiven text rows records`: the iterator `records` over the records of `text` has returned
+-- exactly `rows` until now, and can return the next one; it reads by the default rules of the crate
+-- `csv`
 pub record HasGiven (text : List ℕ) (rows : List (List (List ℕ))) (records : Records) : Type 0 where
   pub trim : reader_trim (owned_rows_reader records) ≡ trim.None
   pub ready : Ready (owned_rows_reader records)
@@ -40,13 +42,14 @@ pub record HasGiven (text : List ℕ) (rows : List (List (List ℕ))) (records :
   pub source : source_of held (owned_rows_reader records) ≡ Some rest
   pub reached : Reached default_config st.StartRecord (strip_bom text) rows (reader_state (owned_rows_reader records)) rest
 
--- the reader has returned the text's header only
+-- `HasHeader text header records`: the iterator has returned one record, the text's header
 pub record HasHeader (text : List ℕ) (header : Header) (records : Records) : Type 0 where
   pub names : List (List ℕ)
   pub given : HasGiven text (names ∷ []) records
   pub first : header_of names ≡ Ok header
 
--- the result is the text's header, or the fault of its table
+-- `ReturnsHeader text records result`: the result is the header, the one record that the iterator
+-- has returned; or it is the fault of the text's table, or that memory ran out
 abbrev pub ReturnsHeader : List ℕ → Records → Result Header OffsetFault → Type 0
 ReturnsHeader text records (Ok header) = HasHeader text header records
 ReturnsHeader text records (Err fault) = Excused (is_out_of_memory fault) (table_of text) fault
