@@ -72,6 +72,7 @@ pub piece-parts : (values : ℤ → ℤ) (end a : ℤ) (p : Point) (ps : List Po
 unfolding ArePieces
 piece-parts values end a p ps pieces = pieces
 
+-- points between minute `a` and `end`: `a` isn't after `end`
 pub pieces-end : (values : ℤ → ℤ) (end a : ℤ) (ps : List Point) → ArePieces values end a ps → a ≤ℤ end
 unfolding ArePieces
 pieces-end values end a [] pieces = pieces
@@ -288,7 +289,7 @@ given-search_invariant values s end at p ps search_invariant =
 
 -- ---- counts
 
--- each pending point ends a piece
+-- the known points are at most as many as the pieces ahead, since each ends one
 pub points-few : (test : ℤ → ℕ → Bool) (values : ℤ → ℤ) (end a : ℤ) (ps : List Point) → ArePieces values end a ps
     → length ps ≤ length (pieces_after test end a ps)
 unfolding pieces_after ArePieces
@@ -299,7 +300,7 @@ points-few test values end a (p ∷ ps) pieces =
     let rest = points-few test values end p.minute ps pieces.3 in
     omega (arith, length-append (pieces_of_block test a (minutes_to a p.minute)) (pieces_after test end p.minute ps))
 
--- each piece has a minute
+-- the pieces ahead are at most as many as the remaining minutes
 pub ahead-few : (test : ℤ → ℕ → Bool) (values : ℤ → ℤ) (end a : ℤ) (ps : List Point) → ArePieces values end a ps
     → length (pieces_after test end a ps) ≤ minutes_to a end
 unfolding pieces_after ArePieces

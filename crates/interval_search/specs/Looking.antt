@@ -1,18 +1,21 @@
--- A search in steps: the remaining cells from a minute on (this project).
+-- A search that returns cells one after the other: the cells that remain from a minute on (this
+-- project).
 use Rattle.std.specs.Prelude.{◌≡◌, ℕ, ℤ, pos, ◌+ℤ◌, List, [], ◌∷◌, Option, Some, None}
 use Rattle.curve_law.specs.declared.cell.Cell.{Cell}
 use Rattle.curve_law.specs.Cells.{minutes_of}
 use Rattle.interval_search.specs.declared.found.Found.{Found}
 
--- a search: its curve, the minute that it has reached, the remaining cells, and the most evaluations of
--- the curve that there can be when no cell remains
+-- a search: its curve; `at`, the minute that it has reached; the remaining cells, of which the
+-- first begins at `at`; and `most`, a bound on the number of evaluations of the curve, which stays
+-- the same while the search runs
 pub record Looking (C : Type 0) : Type 0 where
   pub curve : C
   pub at : ℤ
   pub remaining : List Cell
   pub most : ℕ
 
--- a step of a search returns the first of the remaining cells and moves to its end; it returns None if
+-- `StepsOn old result new`: a step of a search from the state `old` to `new` returns the first
+-- remaining cell and the minute at which it begins, and moves to its end; or it returns None, and
 -- no cell remains
 abbrev pub StepsOn : {C : Type 0} → Looking C → Option Found → Looking C → Type 0
 StepsOn old None new = (old.remaining ≡ []) × (new.remaining ≡ []) × (new.at ≡ old.at)

@@ -1,4 +1,4 @@
-//! The state of a search: the point that it has reached, and the pieces after it.
+//! The state of a search: the point that it has reached, and the ends of the pieces after it.
 
 ghost use Rattle.std.specs.Prelude.{◌≡◌, ◌+◌, ◌^◌, ◌≤◌, ℤ, ℕ, Bool, ◌≤ℤ◌, ◌<ℤ◌, true, [], ◌∷◌, length, IfSome, MatchOption};
 ghost use Rattle.curve_law.specs.CurveStates.{evaluated_once};
@@ -10,8 +10,8 @@ use crate::piece::{Piece, block_end, halfway, piece_between, stays_whole};
 use crate::rule::PieceRule;
 use curve_law::{Curve, Point};
 
-/// Removes the nearest end point from `pending` and returns it; if there isn't one, returns the point
-/// at the end of the block that begins at `at`.
+/// Removes the nearest end point from `pending` and returns it. If `pending` is empty, evaluates
+/// the curve at the end of the block that begins at `at`, and returns this point.
 #[inline(always)]
 fn nearest_end<C: Curve, R: PieceRule>(
     curve: &mut C,
@@ -34,7 +34,9 @@ fn nearest_end<C: Curve, R: PieceRule>(
     }
 }
 
-/// Returns the first piece from `at` to `next_end` that isn't halved.
+/// Returns the first piece from `at` on that isn't halved: the piece from `at` to `next_end`, or
+/// its first half, or the first half of this half, and so on. The ends of the pieces after it are
+/// pushed onto `pending`.
 #[inline(always)]
 fn nearest_piece<C: Curve, R: PieceRule>(
     curve: &mut C,
@@ -64,17 +66,21 @@ fn nearest_piece<C: Curve, R: PieceRule>(
     }
 }
 
-/// The state of a search over a span: the point that it has reached, the end points of the pieces after
-/// it that are already known, the nearest first, and the end of the span, which isn't part of it.
+/// The state of a search over a span of time.
 #[derive(Drop)]
 pub struct Front {
+    /// The point that the search has reached: a minute and the curve's value at it.
     pub at: Point,
+    /// The ends of the pieces after this point that are already known, the nearest first, with
+    /// their values.
     pub pending: Pending,
+    /// The end of the span, in minutes since 1970-01-01T00:00Z, which isn't part of it.
     pub end: i64,
 }
 
-/// Returns the state of a search at the beginning of the span of the minutes from `begin` up to but not
-/// including `end`. It evaluates the curve once. Both ends are minutes of `curve`.
+/// Returns the state of a search at the beginning of the span of the minutes from `begin` up to but
+/// not including `end`. Both are minutes of `curve`, and `begin` isn't after `end`. The curve is
+/// evaluated once, at `begin`; before the call it was evaluated at most 2^62 + 2^60 times.
 pub fn front_at<C: Curve, R: PieceRule>(curve: &mut C, rule: &R, begin: i64, end: i64) -> Front
     requires forward { begin ≤ℤ end }
     requires first { (C.state curve.old).curve_model.curve_spec.first ≤ℤ begin }
@@ -95,8 +101,9 @@ pub fn front_at<C: Curve, R: PieceRule>(curve: &mut C, rule: &R, begin: i64, end
     }
 }
 
-/// Moves the search past the next piece that isn't halved, and returns this piece, or `None` if the
-/// search has reached the end of its span.
+/// Moves the search past the next piece (one minute, or minutes that `rule` leaves whole), and
+/// returns this piece, or `None` if the search has reached the end of its span. The number of
+/// evaluations of the curve is 1 plus the growth of the number of pending points, or 0 for `None`.
 #[inline(always)]
 pub fn next_piece<C: Curve, R: PieceRule>(
     curve: &mut C,

@@ -1,4 +1,4 @@
-//! A search in steps.
+//! A search that returns the cells of a span one after the other.
 
 ghost use Rattle.std.specs.Prelude.{◌≡◌, ◌+◌, ◌^◌, ◌≤◌, ◌-ℤ◌, ◌≤ℤ◌, length, unsigned_abs};
 ghost use Rattle.curve_law.specs.Cover.{cover};
@@ -14,8 +14,8 @@ use std::marker::Model;
 /// A search that returns the cells of a span one after the other. It owns its curve and doesn't
 /// allocate.
 ///
-/// In contracts its value is the curve, the minute that it has reached, the remaining cells, and the
-/// most evaluations of the curve that there can be when no cell remains.
+/// In contracts its value is the curve, the minute that it has reached, the remaining cells, and a
+/// bound on the number of evaluations of the curve, which stays the same while the search runs.
 #[derive(Drop)]
 pub struct Search<C: Curve> {
     curve: C,
@@ -35,9 +35,10 @@ impl<C: Curve> Model for Search<C> {
 }
 
 impl<C: Curve> Search<C> {
-    /// Returns a search over the minutes from `begin` up to but not including `end`, and evaluates the
-    /// curve once. `begin` and `end` are both minutes of `curve`, which was evaluated at most 2^62
-    /// times before.
+    /// Returns a search over the minutes from `begin` up to but not including `end`, and evaluates
+    /// the curve once. The caller ensures that `begin` and `end` are both minutes of `curve`, that
+    /// `begin` isn't after `end`, and that the curve was evaluated at most 2^62 times before. All
+    /// evaluations of the search together are at most one more than its cells.
     ///
     /// # Examples
     /// ```
@@ -71,15 +72,15 @@ impl<C: Curve> Search<C> {
         next_found(&mut self.curve, &mut self.front)
     }
 
-    /// Does nothing. Its contract says that at most 2^61 cells remain, since each has at least one
-    /// minute.
+    /// Does nothing. Its contract says that at most 2^61 cells remain.
     pub fn cells_are_few(&self)
         ensures { length self.now.remaining ≤ 2 ^ 61 }
     {
         let _end = self.front.end;
     }
 
-    /// Returns the number of evaluations of the curve until now.
+    /// Returns the number of evaluations of the curve until now, including the evaluations before
+    /// the search began.
     ///
     /// The program doesn't call it.
     pub fn evaluations(&self) -> u64

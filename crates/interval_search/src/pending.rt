@@ -6,8 +6,8 @@ use arrayvec::ArrayVec;
 use curve_law::Point;
 use std::marker::Model;
 
-/// A stack of at most sixteen points. In contracts its value is the list of the points, the last one
-/// pushed first.
+/// A stack of at most sixteen points. In contracts its value is the list of the points, the last
+/// one pushed first.
 #[derive(Drop)]
 pub struct Pending {
     points: ArrayVec<Point, 16>,
@@ -32,7 +32,8 @@ impl Pending {
         }
     }
 
-    /// Pushes `point` onto the stack, which has at most fifteen points before.
+    /// Pushes `point` onto the stack. The caller ensures that the stack has at most fifteen points
+    /// before.
     pub fn push(&mut self, point: Point)
         requires { length self.old < 16 }
         ensures { self.new ≡ point ∷ self.old }

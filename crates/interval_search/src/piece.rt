@@ -1,4 +1,4 @@
-//! The pieces between points.
+//! Pieces: the minutes between two points of a curve.
 
 ghost use Rattle.std.specs.Prelude.{◌≡◌, ◌/◌, ◌≤◌, ◌^◌, pos, ◌+ℤ◌, ◌≤ℤ◌, ◌<ℤ◌, unsigned_abs, min};
 ghost use Rattle.curve_law.specs.Pieces.{stays_whole};
@@ -7,18 +7,21 @@ ghost use Rattle.interval_search.specs.Workings.Ahead.{minutes_to, piece_between
 use crate::rule::PieceRule;
 use curve_law::{Curve, MOST_MINUTES, Point};
 
-/// The minutes between two points of a curve. They are one block of a span, or a part of a block by
-/// halving.
+/// A piece of a span: the minutes from one point of a curve up to but not including another. A
+/// search makes pieces by cutting the span into blocks and halving them.
 #[derive(Clone, Copy)]
 pub struct Piece {
+    /// The first minute of the piece, and the curve's value at it.
     pub begin: Point,
+    /// The end of the piece, which isn't one of its minutes, and the curve's value at it.
     pub end: Point,
-    /// The number of minutes from `begin` to `end`, from 1 to [`MOST_MINUTES`].
+    /// The number of minutes from `begin` to `end`. In a search it is from 1 to [`MOST_MINUTES`]
+    /// (1,024).
     pub minutes: u32,
 }
 
-/// Returns the piece of the minutes from the point `begin` to the point `end`, which is 1 to
-/// [`MOST_MINUTES`] minutes later and isn't one of them.
+/// Returns the piece of the minutes from the point `begin` up to but not including the point `end`,
+/// which is 1 to [`MOST_MINUTES`] (1,024) minutes later.
 pub fn piece_between(begin: Point, end: Point) -> Piece
     requires some { begin.minute <ℤ end.minute }
     requires count_bound { end.minute ≤ℤ (begin.minute +ℤ pos MOST_MINUTES) }
@@ -31,7 +34,8 @@ pub fn piece_between(begin: Point, end: Point) -> Piece
     }
 }
 
-/// Returns true if `piece` isn't halved: it is one minute, or `rule` leaves it whole.
+/// Returns true if `piece`, a piece of `curve`, isn't halved: it is one minute, or `rule` leaves it
+/// whole.
 pub fn stays_whole<C: Curve, R: PieceRule>(curve: &C, rule: &R, piece: Piece) -> bool
     requires { IsPiece (C.state curve.now).curve_model.curve_spec (R.values (C.state curve.now).curve_model) piece }
     ensures { result ≡ stays_whole (R.whole rule.now (C.state curve.now).curve_model.curve_spec) piece.begin.minute piece.minutes }
@@ -39,7 +43,8 @@ pub fn stays_whole<C: Curve, R: PieceRule>(curve: &C, rule: &R, piece: Piece) ->
     piece.minutes <= 1 || rule.is_whole(curve, piece)
 }
 
-/// Returns the minute at which the second half of `piece` begins. The first half is the shorter one.
+/// Returns the minute at which the second half of `piece` begins. The first half has half of its
+/// minutes, rounded down. The first minute of `piece` is at most 2^60 in size.
 pub fn halfway(piece: Piece) -> i64
     requires in_range { unsigned_abs piece.begin.minute ≤ 2 ^ 60 }
     ensures { result ≡ piece.begin.minute +ℤ pos (piece.minutes / 2) }
@@ -47,8 +52,9 @@ pub fn halfway(piece: Piece) -> i64
     piece.begin.minute + i64::from(piece.minutes / 2)
 }
 
-/// Returns the end of the block that begins at `begin`: [`MOST_MINUTES`] later, or `end`, the end of
-/// the span, if that is earlier. `begin` is before `end` and from -2^60 to 2^60.
+/// Returns the end of the block that begins at the minute `begin`: `begin + 1024`
+/// ([`MOST_MINUTES`]), or `end`, the end of the span, if that is earlier. `begin` is before `end`,
+/// and from -2^60 to 2^60.
 pub fn block_end(begin: i64, end: i64) -> i64
     requires some { begin <ℤ end }
     requires in_range { unsigned_abs begin ≤ 2 ^ 60 }

@@ -1,4 +1,4 @@
-//! Quiet pieces, and the cells of pieces.
+//! The rule that leaves quiet minutes whole, and the cells of pieces.
 
 ghost use Rattle.std.specs.Prelude.{◌≡◌};
 ghost use Rattle.curve_law.specs.Cover.{is_quiet, cell_of};
@@ -15,7 +15,9 @@ use curve_law::{
     Cell, Curve, Point, approximate_point_at, is_quiet_from_approximate, unit_cell_from_approximate,
 };
 
-/// The rule that leaves a piece whole if it is one quiet cell, by approximate values of the curve.
+/// The rule that leaves a piece whole if it can be one quiet cell (2 to 1,024 minutes in which, by
+/// a bound on the curve's change in a minute, its value can't cross 0). It evaluates the curve
+/// approximately.
 pub struct QuietPieces;
 
 impl PieceRule for QuietPieces {
@@ -38,7 +40,8 @@ impl PieceRule for QuietPieces {
     }
 }
 
-/// Returns the cell of a piece that isn't halved: a quiet cell, or a cell of one minute.
+/// Returns the cell of a piece that isn't halved: a cell of one minute if the piece is one minute,
+/// and otherwise a quiet cell.
 fn cell_of<C: Curve>(curve: &C, piece: Piece) -> Cell
     requires { IsPiece (C.state curve.now).curve_model.curve_spec (C.state curve.now).curve_model.approximate piece }
     ensures { result ≡ cell_of (C.state curve.now).curve_model.curve_spec (interval_of piece) }

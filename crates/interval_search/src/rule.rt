@@ -1,4 +1,4 @@
-//! The rule by which a span is cut into pieces.
+//! The rule that says which pieces of a span are left whole and which are halved.
 
 ghost use Rattle.std.specs.Prelude.{◌≡◌, ℕ, ◌^◌, ◌<◌, ℤ, Bool};
 ghost use Rattle.curve_law.specs.CurveSpec.{CurveSpec, IsMinute};
@@ -8,27 +8,28 @@ ghost use Rattle.interval_search.specs.Workings.Ahead.{IsPiece};
 use crate::piece::Piece;
 use curve_law::{Curve, Point};
 
-/// A rule for the pieces of a span: which of them are left whole, and which values of a curve it uses
-/// for that.
+/// A rule for the pieces of a span (parts of it that are halved again and again): which of them are
+/// left whole, and how a curve is evaluated at their ends.
 ///
-/// In contracts a rule is a test and values. The test may differ from rule to rule, and so may change in
-/// the course of a search; the values are the same for all rules of a type.
+/// In contracts a rule is a test and values. Two rules of one type may have different tests, so the
+/// test may change in the course of a search; the values are the same for all rules of a type.
 pub trait PieceRule {
-    /// True if, on this curve, the given number of minutes, 2 to 1,024, from the given minute on are
-    /// left whole.
+    /// The test in contracts: `whole rule c a n` is true if the rule leaves the `n` minutes from
+    /// minute `a` on of the curve `c` whole.
     ghost whole: { Self → CurveSpec → ℤ → ℕ → Bool };
 
-    /// The value of a curve at a minute, exact or approximate.
+    /// The value, exact or approximate, that the rules of this type use at each minute of a curve.
     ghost values: { CurveModel → ℤ → ℤ };
 
-    /// Returns the point at `minute`: the minute and the curve's value. The curve is evaluated once.
+    /// Returns `minute`, a minute of the curve, with the value that the rule uses at it. The curve
+    /// is evaluated once; it was evaluated fewer than 2^63 times before.
     fn evaluate<C: Curve>(&self, curve: &mut C, minute: i64) -> Point
         requires minute { IsMinute (C.state curve.old).curve_model.curve_spec minute }
         requires count_bound { (C.state curve.old).count < 2 ^ 63 }
         ensures point { result ≡ record { minute = minute; value = values (C.state curve.old).curve_model minute } }
         ensures after { C.state curve.new ≡ evaluated_once (C.state curve.old) };
 
-    /// Returns true if `piece` is left whole.
+    /// Returns true if `piece`, a piece of `curve` of 1 to 1,024 minutes, is left whole.
     fn is_whole<C: Curve>(&self, curve: &C, piece: Piece) -> bool
         requires { IsPiece (C.state curve.now).curve_model.curve_spec (values (C.state curve.now).curve_model) piece }
         ensures { result ≡ whole self.now (C.state curve.now).curve_model.curve_spec piece.begin.minute piece.minutes };

@@ -8,12 +8,12 @@ use crate::quiet_pieces::{QuietPieces, next_found};
 use curve_law::{Cells, Curve};
 use std::alloc::{AllocError, Global};
 
-/// Returns the cells of the minutes from `begin` up to but not including `end`, both minutes of
-/// `curve`. Before the call the curve may have been evaluated at most 2^62 times; the call evaluates it
-/// at most once per cell, plus once.
+/// Returns the cells of the minutes from `begin` up to but not including `end`. The caller ensures
+/// that both are minutes of `curve`, that `begin` isn't after `end`, and that the curve was
+/// evaluated at most 2^62 times before. The call evaluates it at most once per cell, plus once.
 ///
 /// # Errors
-/// [`AllocError`] if memory runs out.
+/// - [`AllocError`]: when memory runs out.
 ///
 /// # Examples
 /// ```

@@ -8,11 +8,12 @@ use Rattle.interval_search.specs.declared.front.Front.{Front}
 use Rattle.interval_search.specs.Looking.{Looking}
 use Rattle.interval_search.specs.Workings.Ahead.{pieces_ahead}
 
--- the cells of the pieces that a search has still to reach
+-- the cells that a search in this state has still to return
 unfoldable pub cells_ahead : CurveSpec → Front → List Cell
 cells_ahead c front = map (cell_of c) (pieces_ahead (is_quiet c) front)
 
--- the value in contracts of a search with this curve, count and state
+-- the value in contracts of a search with this curve, this state of the curve, and this state of
+-- the search
 abbrev pub looking_at : {C : Type 0} → C → CurveState → Front → Looking C
 looking_at curve s front = record {
   curve = curve;
