@@ -93,7 +93,7 @@ cover-right c at value a n peak =
 inside-true : (at a : ℤ) (n : ℕ) → a ≤ℤ at → at <ℤ (a +ℤ pos n) → is_inside at a n ≡ true
 inside-true at a n from before = grind (arith, ints)
 
--- the cover of the highest water is accepted
+-- the cells made by halving for the highest water of a span are accepted
 pub cover-accepted : (c : CurveSpec) (at value a : ℤ) (n : ℕ) → IsHighest c a (a +ℤ pos n) at value
     → peak_verdict c a n (record { at = at; value = value; cells = peak_cover c at value a n }) ≡ Accepted
 unfolding peak_verdict

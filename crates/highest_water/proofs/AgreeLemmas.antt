@@ -1,4 +1,5 @@
--- A curve at other minutes has the same highest water, cells and verdicts.
+-- Two curves that differ only in their first and last minute have the same highest waters, cells
+-- and verdicts.
 use Rattle.std.proofs.Common.{◌≡◌, ℕ, zero, suc, ℤ, pos, ◌+ℤ◌, List, [], ◌∷◌, refl, ap}
 use Rattle.curve_law.specs.CurveSpec.{CurveSpec, at_minutes}
 use Rattle.highest_water.specs.declared.peak.Peak.{Peak}

@@ -1,4 +1,4 @@
--- A span has one highest water.
+-- A span has exactly one highest water.
 use Rattle.std.proofs.Common.{◌≡◌, ℕ, zero, suc, ◌≤◌, ℤ, pos, ◌+ℤ◌, ◌≤ℤ◌, ◌<ℤ◌, int_lt, false, refl, sym, ap, arith, ◌∙◌}
 use Rattle.std.proofs.lemmas.Int.{ints}
 use Rattle.curve_law.specs.CurveSpec.{CurveSpec}
@@ -29,7 +29,7 @@ highest-one c begin end at value other_at other peak another =
     (one_minute c begin end other_at other at value another peak) in
     (one, sym peak.has ∙ ap c.track.value one ∙ another.has)
 
--- one more minute
+-- the highest water of a span of one minute
 first-highest : (c : CurveSpec) (a : ℤ) → IsHighest c a (a +ℤ pos 1) a (c.track.value a)
 first-highest c a = record {
   from = omega (arith, ints);
@@ -81,7 +81,7 @@ first-minute c a =
     let none : int_lt (c.track.value a) (c.track.value a) ≡ false = grind (arith, ints) in
     rw (here, none) refl
 
--- an evaluation of each minute finds the highest water
+-- the minute that an evaluation of each minute finds is the highest water
 pub minute-highest : (c : CurveSpec) (a : ℤ) (n : ℕ) → 1 ≤ n
     → IsHighest c a (a +ℤ pos n) (highest_minute c a n) (c.track.value (highest_minute c a n))
 unfolding highest_minute

@@ -1,5 +1,5 @@
--- A curve that changes by at most its rate in each minute stays under a value that is far enough from the
--- values at both ends.
+-- A curve that changes by at most its rate in each minute stays under a value that the bound on the
+-- values between both ends doesn't reach.
 use Rattle.std.proofs.Common.{◌≡◌, ◌⊎◌, inl, inr, ⊎_elim, ℕ, ◌+◌, ◌-◌, ◌*◌, ◌≤◌, ◌<◌, nat_le, ℤ, pos, negsuc, ◌+ℤ◌, ◌-ℤ◌, ◌*ℤ◌, ◌≤ℤ◌, ◌<ℤ◌, unsigned_abs, int_lt, int_le, Bool, true, false, ◌&&◌, ◌||◌, ◌^◌, cond, Option, Some, None, refl, arith}
 use Rattle.std.proofs.lemmas.Bool.{and_parts}
 use Rattle.std.proofs.lemmas.Bool.Decides.{nat_tests}
@@ -62,7 +62,7 @@ rate-within rate v w x value n bound stays =
     let less = int_le-true (v +ℤ w +ℤ (rate *ℤ pos n)) (pos 2 *ℤ value) stays in
     omega (arith, ints)
 
--- the bound of a value inside by the rate of a cell
+-- twice a value in a cell is at most both values at the ends plus the rate times the minutes
 inside-most : (c : CurveSpec) (a : ℤ) (n j : ℕ) (rate : ℤ) → c.rate a n ≡ Some rate → IsLawful c → IsSpan c a n → 2 ≤ n
     → n ≤ MOST_MINUTES → j < n
     → (pos 2 *ℤ c.track.value (a +ℤ pos j)) ≤ℤ (c.track.value a +ℤ c.track.value (a +ℤ pos n) +ℤ (rate *ℤ pos n))
@@ -94,7 +94,7 @@ two_ways false q true true h = inr (refl, refl)
 two_ways false q true false h = cc
 two_ways false q false s h = cc
 
--- the parts of the test
+-- a cell under a point has at least two minutes
 pub under-two : (c : CurveSpec) (at value a : ℤ) (n : ℕ) → is_under c at value a n ≡ true → 2 ≤ n
 unfolding is_under
 under-two c at value a n under = grind (arith, nat_tests)
@@ -103,7 +103,8 @@ pub under-few : (c : CurveSpec) (at value a : ℤ) (n : ℕ) → is_under c at v
 unfolding is_under
 under-few c at value a n under = grind (arith, nat_tests)
 
--- a cell that ends by the minute has only lesser values; one that begins after it has no greater one
+-- `EndsBy c at value a n`: a cell of the n minutes from minute `a` on is before the minute `at`,
+-- and by the rate its values are less than `value`
 abbrev EndsBy : CurveSpec → ℤ → ℤ → ℤ → ℕ → Type 0
 EndsBy c at value a n = (a +ℤ pos n) ≤ℤ at × (stays_below (c.rate a n) n (c.track.value a) (c.track.value (a +ℤ pos n)) value ≡ true)
 
@@ -119,7 +120,7 @@ under-side c at value a n under =
     (λ after. inr (int_lt-true _ _ after.0, after.1))
     (two_ways _ _ _ _ sides.1)
 
--- a cell that is under doesn't contain the minute
+-- a cell under a point that doesn't begin after the point's minute ends before this minute or at it
 pub under-beside : (c : CurveSpec) (at value a : ℤ) (n : ℕ) → is_under c at value a n ≡ true → a ≤ℤ at → (a +ℤ pos n) ≤ℤ at
 under-beside c at value a n under from =
     elim (under-side c at value a n under) [ inl by ↦ by.0 | inr after ↦ absurd (omega (arith, ints, after.0)) ]
@@ -128,7 +129,7 @@ pub under-other : (c : CurveSpec) (at value a : ℤ) (n : ℕ) → is_under c at
 under-other c at value a n under from before =
     let beside = under-beside c at value a n under from in omega (arith, ints)
 
--- no minute of a cell that is under is higher
+-- if no minute of a cell is higher than a point, the cell is below it
 below-of : (c : CurveSpec) (at value a : ℤ) (n : ℕ) → ((j : ℕ) → j < n → c.track.value (a +ℤ pos j) ≤ℤ value
     × ((a +ℤ pos j) <ℤ at → c.track.value (a +ℤ pos j) <ℤ value)) → AreBelow c at value a (a +ℤ pos n)
 below-of c at value a n each = record {
@@ -182,7 +183,7 @@ outside-by at a n h later = grind (arith, ints)
 after-not_by : (at a : ℤ) (n : ℕ) → int_lt at a ≡ true → int_le (a +ℤ pos n) at ≡ false
 after-not_by at a n h = grind (arith, ints)
 
--- the bound that counts, if the cell doesn't contain the minute
+-- the test of the bound: not greater than twice the value after the minute, less than it before
 abbrev pub low_enough : ℤ → ℤ → Bool → Bool
 low_enough most value is_after = cond is_after (int_le most (pos 2 *ℤ value)) (int_lt most (pos 2 *ℤ value))
 
@@ -210,6 +211,6 @@ is_under-unrated c at value a n stated = rw (← stated) (no_way (int_le (a +ℤ
     no_way false true b = and_false b
     no_way false false b = and_false b
 
--- the first minute of a span of a lawful curve
+-- the first minute of a span of a lawful curve is at most 2^60 in size
 pub begin-range : (c : CurveSpec) (a : ℤ) (n : ℕ) → IsLawful c → IsSpan c a n → unsigned_abs a ≤ 2 ^ 60
 begin-range c a n lawful span = omega (arith, ints, lawful.early, lawful.late, span.first, span.last)

@@ -1,4 +1,4 @@
--- Consequences of an accepting verdict.
+-- What follows if the check accepts.
 use Rattle.std.proofs.Common.{◌≡◌, ℕ, suc, ◌+◌, ◌==◌, ℤ, pos, ◌+ℤ◌, ◌≤ℤ◌, ◌<ℤ◌, int_lt, true, false, List, [], ◌∷◌, refl, sym, ap, arith, ◌∙◌}
 use Rattle.std.specs.Ordering.{int_eq}
 use Rattle.std.proofs.lemmas.Bool.{and_parts}
@@ -27,7 +27,7 @@ both_accepted (WrongValue written computed) w h = cc
 both_accepted (Above cell) w h = cc
 both_accepted Accepted w h = (refl, h)
 
--- no minute of two adjacent spans is higher, if none of each is
+-- if no minute of two adjacent spans is higher than a point, none of both together is
 pub below-append : (c : CurveSpec) (at value a b d : ℤ) → AreBelow c at value a b → AreBelow c at value b d → AreBelow c at value a d
 below-append c at value a b d first second = record {
   greatest = λ m from before. by_test (int_lt m b)
@@ -47,7 +47,7 @@ below-none c at value a = record {
 not_higher : (at value m v : ℤ) → is_higher at value m v ≡ false → v ≤ℤ value × (m <ℤ at → v <ℤ value)
 not_higher at value m v h = (grind (arith, ints), λ earlier. grind (arith, ints))
 
--- one minute that is not higher
+-- a span of one minute that isn't higher than a point
 pub below-one : (c : CurveSpec) (at value a : ℤ) → is_higher at value a (c.track.value a) ≡ false → AreBelow c at value a (a +ℤ pos 1)
 below-one c at value a h =
     let low = not_higher at value a (c.track.value a) h in
@@ -56,14 +56,14 @@ below-one c at value a h =
       first = λ m from before. let one : m ≡ a = omega (arith, ints) in rw one low.1;
     }
 
--- the minute of the highest water itself
+-- a span of the minute of the highest water
 pub below-at : (c : CurveSpec) (at value a : ℤ) → a ≡ at → c.track.value a ≡ value → AreBelow c at value a (a +ℤ pos 1)
 below-at c at value a here has = record {
   greatest = λ m from before. let one : m ≡ a = omega (arith, ints) in rw (one, has) (omega (arith, ints));
   first = λ m from before earlier. absurd (omega (arith, ints));
 }
 
--- the facts of accepted cells: no minute is higher, and the written minute has the written value
+-- what accepted cells show: no minute is higher, and the claimed minute has the claimed value
 record AreShown (c : CurveSpec) (at value begin end : ℤ) : Type 0 where
   below : AreBelow c at value begin end
   has : begin ≤ℤ at → at <ℤ end → c.track.value at ≡ value
@@ -121,7 +121,7 @@ accepted-cells c at value a number (cell ∷ cells) lawful span ok =
           (λ more. rest.has (int_lt-false _ _ more) before);
     })
 
--- accepted cells show the highest water, whoever wrote them
+-- if the check accepts a peak, however it was made, it is the highest water of the span
 pub verdict-highest : (c : CurveSpec) (a : ℤ) (n : ℕ) (peak : Peak) → IsLawful c → IsSpan c a n
     → peak_verdict c a n peak ≡ Accepted → IsHighest c a (a +ℤ pos n) peak.at peak.value
 unfolding peak_verdict

@@ -1,5 +1,6 @@
--- The cells that show a highest water: cells that by the curve's rate are under it, and otherwise halves
--- of cells, down to single minutes (this project).
+-- The cells that show a highest water: each block of minutes is one cell if the bound on the
+-- curve's change in a minute excludes a higher minute in it; otherwise it is halved, down to single
+-- minutes (this project).
 use Rattle.std.specs.Prelude.{ℕ, ◌+◌, ℤ, pos, ◌+ℤ◌, ◌*ℤ◌, int_lt, int_le, nat_le, Bool, false, ◌&&◌, ◌||◌, if◌then◌else◌, Option, Some, None, List, [], ◌∷◌, map}
 use Rattle.curve_law.specs.CurveSpec.{CurveSpec}
 use Rattle.curve_law.specs.Pieces.{Interval, pieces_of_block, pieces_of}
@@ -19,53 +20,59 @@ unfoldable pub all_minutes : List PeakCell → ℕ
 all_minutes [] = 0
 all_minutes (cell ∷ cells) = minutes_of cell + all_minutes cells
 
--- twice the greatest value that a rate, a bound on the change in a minute, allows between two values n
--- minutes apart: the sum of both values and of the rate times n
+-- `twice_most rate n v w`: v + w + rate * n; if a value changes by at most `rate` in each minute,
+-- none between the values v and w, n minutes apart, exceeds half of this
 abbrev pub twice_most : ℤ → ℕ → ℤ → ℤ → ℤ
 twice_most rate n v w = v +ℤ w +ℤ (rate *ℤ pos n)
 
--- by the rate, every value between the values v and w, n minutes apart, is below `value`; false without
--- a rate
+-- `stays_below rate n v w value`: true if each value between the values v and w, n minutes apart,
+-- is less than `value` by the bound `twice_most`; false if the rate is None
 unfoldable pub stays_below : Option ℤ → ℕ → ℤ → ℤ → ℤ → Bool
 stays_below None n v w value = false
 stays_below (Some rate) n v w value = int_lt (twice_most rate n v w) (pos 2 *ℤ value)
 
--- by the rate, every value between the values v and w, n minutes apart, is at most `value`; false
--- without a rate
+-- `stays_within rate n v w value`: true if each value between the values v and w, n minutes apart,
+-- is at most `value` by the bound `twice_most`; false if the rate is None
 unfoldable pub stays_within : Option ℤ → ℕ → ℤ → ℤ → ℤ → Bool
 stays_within None n v w value = false
 stays_within (Some rate) n v w value = int_le (twice_most rate n v w) (pos 2 *ℤ value)
 
--- the n minutes from minute `a` on are all before the minute `at`, and by the rate their values are all
--- below `value`
+-- `ends_below c at value a n`: true if the n minutes from minute `a` on are all before the minute
+-- `at`, and by the curve's rate (a bound on its change in a minute) their values are all less than
+-- `value`
 abbrev pub ends_below : CurveSpec → ℤ → ℤ → ℤ → ℕ → Bool
 ends_below c at value a n =
     int_le (a +ℤ pos n) at && stays_below (c.rate a n) n (c.track.value a) (c.track.value (a +ℤ pos n)) value
 
--- the n minutes from minute `a` on are all after the minute `at`, and by the rate their values are all
--- at most `value`
+-- `begins_within c at value a n`: true if the n minutes from minute `a` on are all after the minute
+-- `at`, and by the curve's rate (a bound on its change in a minute) their values are all at most
+-- `value`
 abbrev pub begins_within : CurveSpec → ℤ → ℤ → ℤ → ℕ → Bool
 begins_within c at value a n =
     int_lt at a && stays_within (c.rate a n) n (c.track.value a) (c.track.value (a +ℤ pos n)) value
 
--- the n minutes from minute `a` on, n from 2 to 1,024, are under the point of the minute `at` and its
--- value: by the rate they are all before `at` with lower values, or all after `at` with values that
--- aren't greater; minutes that include `at` are neither
+-- `is_under c at value a n`: true if the n minutes from minute `a` on are under the point of the
+-- minute `at` and `value`: n is from 2 to 1,024, and either they are all before `at` and by the
+-- curve's rate (a bound on its change in a minute) have lesser values, or they are all after `at`
+-- and by the rate have no greater values; false if `at` is one of them
 unfoldable pub is_under : CurveSpec → ℤ → ℤ → ℤ → ℕ → Bool
 is_under c at value a n =
     nat_le 2 n && nat_le n MOST_MINUTES && (ends_below c at value a n || begins_within c at value a n)
 
--- the cell of a piece: of one minute, or under the highest water
+-- the cell of an interval of minutes: a single minute if it has one (or none), otherwise a cell of
+-- all its minutes under the highest water
 abbrev pub cell_of : Interval → PeakCell
 cell_of piece = if nat_le piece.minutes 1 then Single else Under piece.minutes
 
--- the cells of a block of n minutes from minute `a` on, for a highest water: one cell that is under it,
--- or one of a single minute, or the cells of the two halves, the shorter half first
+-- the cells of a block of n minutes from minute `a` on, for a highest water with the minute `at`
+-- and `value`: one cell if the block is under it, or a single minute, or else the cells of its two
+-- halves, the first half (n / 2 minutes, rounded down) first
 unfoldable pub peak_split : CurveSpec → ℤ → ℤ → ℤ → ℕ → List PeakCell
 peak_split c at value a n = map cell_of (pieces_of_block (is_under c at value) a n)
 
--- the cells of a span of n minutes from minute `a` on, for the minute and the value of its highest
--- water, cut into blocks of 1,024 minutes from its beginning on; the last block may be shorter
+-- the cells of the span of n minutes from minute `a` on, for a highest water with the minute `at`
+-- and `value`: the span is cut from its beginning into blocks of 1,024 minutes, of which the last
+-- may be shorter, and each block into its cells
 unfoldable pub peak_cover : CurveSpec → ℤ → ℤ → ℤ → ℕ → List PeakCell
 peak_cover c at value a n = map cell_of (pieces_of (is_under c at value) a n)
 

@@ -1,5 +1,5 @@
--- The verdict on a highest water, however it was made: first the length of its cells, then its minute,
--- then each cell (this project).
+-- The verdict on a highest water, however it was made: first the number of minutes of its cells,
+-- then its minute, then each cell (this project).
 use Rattle.std.specs.Prelude.{ℕ, suc, ◌-◌, ◌^◌, min, ℤ, pos, ◌+ℤ◌, int_lt, int_le, Bool, ◌==◌, ◌&&◌, if◌then◌else◌, List, [], ◌∷◌}
 use Rattle.std.specs.Ordering.{int_eq}
 use Rattle.curve_law.specs.CurveSpec.{CurveSpec}
@@ -11,8 +11,8 @@ use Rattle.highest_water.specs.declared.verdict.PeakVerdict.TheVariants.{WrongLe
 use Rattle.highest_water.specs.Peaks.{is_higher}
 use Rattle.highest_water.specs.Covers.{minutes_of, all_minutes, is_under}
 
--- the verdict on the cell with this number, counted from 1, which begins at minute `a`, for a claimed
--- highest water with this minute and value
+-- the verdict on the cell with this number, counted from 1, that begins at minute `a`, for a
+-- claimed highest water with the minute `at` and `value`
 unfoldable pub cell_verdict : CurveSpec → ℤ → ℤ → ℤ → ℕ → PeakCell → PeakVerdict
 cell_verdict c at value a number (Under n) = if is_under c at value a n then Accepted else NotUnder number
 cell_verdict c at value a number Single =
@@ -20,7 +20,7 @@ cell_verdict c at value a number Single =
     then (if int_eq value (c.track.value a) then Accepted else WrongValue value (c.track.value a))
     else (if is_higher at value a (c.track.value a) then Above number else Accepted)
 
--- a verdict, or the next one if it accepts
+-- the first verdict if it is a fault, otherwise the second
 abbrev pub or_next : PeakVerdict → PeakVerdict → PeakVerdict
 or_next (WrongLength covered wanted) next = WrongLength covered wanted
 or_next Outside next = Outside
@@ -29,19 +29,22 @@ or_next (WrongValue written computed) next = WrongValue written computed
 or_next (Above cell) next = Above cell
 or_next Accepted next = next
 
--- the first verdict that doesn't accept on consecutive cells, of which the first has this number and
--- begins at minute `a`; Accepted if there is none
+-- the first fault in a list of cells without gaps, of which the first has this number and begins at
+-- minute `a`, for a claimed highest water with the minute `at` and `value`; Accepted if there is
+-- none
 unfoldable pub cells_verdict : CurveSpec → ℤ → ℤ → ℤ → ℕ → List PeakCell → PeakVerdict
 cells_verdict c at value a number [] = Accepted
 cells_verdict c at value a number (cell ∷ cells) =
     or_next (cell_verdict c at value a number cell) (cells_verdict c at value (a +ℤ pos (minutes_of cell)) (suc number) cells)
 
--- a minute is one of the n minutes from minute `a` on; `a + n` isn't
+-- `is_inside at a n`: true if `at` is one of the n minutes from minute `a` on; `a + n` isn't one of
+-- them
 abbrev pub is_inside : ℤ → ℤ → ℕ → Bool
 is_inside at a n = int_le a at && int_lt at (a +ℤ pos n)
 
--- the verdict on a claimed highest water of the n minutes from minute `a` on: its cells' number of
--- minutes is judged first, then its minute, then each cell; cells are counted from 1
+-- the verdict on a claimed highest water of the n minutes from minute `a` on: WrongLength if its
+-- cells don't have n minutes together, otherwise Outside if its minute isn't one of the n,
+-- otherwise the first fault of a cell, or Accepted; cells are counted from 1
 unfoldable pub peak_verdict : CurveSpec → ℤ → ℕ → Peak → PeakVerdict
 peak_verdict c a n peak =
     if all_minutes peak.cells == n

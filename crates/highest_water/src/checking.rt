@@ -1,4 +1,4 @@
-//! The check of a highest water.
+//! The check of a highest water, however it was made.
 
 ghost use Rattle.std.specs.Prelude.{◌≡◌, ◌+◌, ◌<◌, ◌≤◌, ◌^◌, pos, ◌+ℤ◌, ◌-ℤ◌, ◌≤ℤ◌, unsigned_abs, length};
 ghost use Rattle.curve_law.specs.CurveSpec.{IsSpan};
@@ -16,13 +16,14 @@ use crate::verdict::PeakVerdict;
 use curve_law::{Curve, Point, point_at};
 
 /// Checks whether `peak` is the highest water of the minutes from `begin` up to but not including
-/// `end`, both minutes of `curve`. It checks first whether the cells of `peak` cover exactly these
-/// minutes, then whether its minute is one of them, and then each cell in turn. If `peak` is accepted, its
-/// minute is the first with the greatest value, and its value is this value, whoever made `peak`.
+/// `end`: first whether its cells have as many minutes as the span, then whether its minute is in
+/// the span, and then each cell in turn. If `peak` is accepted, its minute is the first with the
+/// greatest value, and its value is this value.
 ///
-/// The caller ensures that the value of `peak` is below 10^37 in size, that there are fewer than 2^32 cells, and the cells and the
-/// earlier evaluations of the curve together number at most 2^62. The call evaluates the curve at most
-/// once per cell, plus once.
+/// The caller ensures that `begin` and `end` are both minutes of `curve` and `begin` isn't after
+/// `end`, that the value of `peak` is below 10^37 in size, that there are fewer than 2^32 cells,
+/// and that the cells and the earlier evaluations of the curve together number at most 2^62. The
+/// call evaluates the curve at most once per cell, plus once.
 pub fn check_peak<C: Curve>(curve: &mut C, peak: &Peak, begin: i64, end: i64) -> PeakVerdict
     requires forward { begin ≤ℤ end }
     requires first { (C.state curve.old).curve_model.curve_spec.first ≤ℤ begin }
@@ -59,8 +60,9 @@ fn is_inside(at: i64, begin: i64, end: i64) -> bool
     begin <= at && at < end
 }
 
-/// Returns the verdict on the first cell that is wrong, or [`PeakVerdict::Accepted`] if none is. The
-/// first cell begins at minute `begin`, and `highest` is the claimed highest water.
+/// Returns the verdict on the first cell that is wrong, or [`PeakVerdict::Accepted`] if none is.
+/// The first cell begins at minute `begin`, and each other cell where the one before it ends;
+/// `highest` is the claimed highest water.
 fn first_finding<C: Curve>(
     curve: &mut C,
     highest: Point,
@@ -88,7 +90,8 @@ fn first_finding<C: Curve>(
     PeakVerdict::Accepted
 }
 
-/// Returns the point at which `cell` ends if it begins at minute `begin`.
+/// Returns the point (the minute and the curve's value) at which `cell` ends if it begins at minute
+/// `begin`. The curve is evaluated once.
 fn end_of<C: Curve>(curve: &mut C, begin: i64, cell: PeakCell) -> Point
     requires span { IsSpan (C.state curve.old).curve_model.curve_spec begin (minutes_of cell) }
     requires count_bound { (C.state curve.old).count < 2 ^ 63 }

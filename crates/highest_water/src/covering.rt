@@ -9,14 +9,15 @@ use crate::walk::{next_cell, walk_from};
 use curve_law::{Curve, Point};
 use std::alloc::{AllocError, Global};
 
-/// Returns the cells showing that `value`, at minute `at`, is the highest water of the minutes from
-/// `begin` up to but not including `end`, both minutes of `curve`. Before the call the curve may
-/// have been evaluated at most 2^62 times; the call evaluates it at most once per cell, plus once.
+/// Returns the cells that show that `value`, at minute `at`, is the highest water of the minutes
+/// from `begin` up to but not including `end`. The caller ensures that it is, that `begin` and
+/// `end` are both minutes of `curve`, and that the curve was evaluated at most 2^62 times before.
+/// The call evaluates it at most once per cell, plus once.
 ///
-/// The program doesn't call this function: the search for the highest water makes these cells.
+/// The program doesn't call it: the search for the highest water makes these cells.
 ///
 /// # Errors
-/// [`AllocError`] if memory runs out.
+/// - [`AllocError`]: when memory runs out.
 pub fn peak_cover<C: Curve>(
     alloc: Global,
     curve: &mut C,
@@ -40,13 +41,12 @@ pub fn peak_cover<C: Curve>(
 }
 
 /// Returns the cells of the minutes from `begin` up to but not including `end`, both minutes of
-/// `curve`, that halving blocks of 1,024 minutes makes: each is a single minute, or is shown to be
-/// under the point `highest`, which need not be the highest water. Before the call the curve may
-/// have been evaluated at most 2^62 + 2^60 times; the call evaluates it at most once per cell, plus
-/// once.
+/// `curve`, that halving makes for the point `highest`: cells of several minutes are under this
+/// point, which need not be the highest water. Its value is below 10^37 in size. The call evaluates
+/// the curve at most once per cell, plus once.
 ///
 /// # Errors
-/// [`AllocError`] if memory runs out.
+/// - [`AllocError`]: when memory runs out.
 pub fn cells_by<C: Curve>(
     alloc: Global,
     curve: &mut C,

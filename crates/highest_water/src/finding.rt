@@ -14,14 +14,14 @@ use curve_law::{Curve, Point, point_at};
 use interval_search::block_end;
 use std::alloc::{AllocError, Global};
 
-/// Returns the highest water of the minutes from `begin` up to but not including `end`, both
-/// minutes of `curve`: the first minute with the greatest value, this value, and the cells that
-/// show it. There are 1 to 5,270,400 minutes. Before the call the curve may have been evaluated at
-/// most 2^62 times; the call evaluates it at most twice per minute and once per cell of the result,
-/// plus twice.
+/// Returns the highest water of the minutes from `begin` up to but not including `end`: the first
+/// minute with the greatest value, this value, and the cells that show it. The caller ensures that
+/// both are minutes of `curve`, 1 to 5,270,400 minutes apart, and that the curve was evaluated at
+/// most 2^62 times before. The call evaluates it at most twice per minute and once per cell of the
+/// result, plus twice.
 ///
 /// # Errors
-/// [`AllocError`] if memory runs out.
+/// - [`AllocError`]: when memory runs out.
 pub fn find_peak<C: Curve>(
     alloc: Global,
     curve: &mut C,
@@ -48,10 +48,11 @@ pub fn find_peak<C: Curve>(
     })
 }
 
-/// Returns the highest water of the minutes from `begin` up to but not including `end`, both minutes of
-/// `curve`: the first minute with the greatest value, and this value. There are 1 to 5,270,400 minutes.
-/// Before the call the curve may have been evaluated at most 2^62 times; the call evaluates it at most
-/// twice per minute, plus once. It makes no cells and doesn't allocate.
+/// Returns the highest water of the minutes from `begin` up to but not including `end`: the first
+/// minute with the greatest value, and this value. The caller ensures that both are minutes of
+/// `curve`, 1 to 5,270,400 minutes apart, and that the curve was evaluated at most 2^62 times
+/// before. The call evaluates it at most twice per minute, plus once. It makes no cells and doesn't
+/// allocate.
 pub fn highest_point<C: Curve>(curve: &mut C, begin: i64, end: i64) -> Point
     requires some { begin <ℤ end }
     requires length_bound { (end -ℤ begin) ≤ℤ pos 5270400 }
@@ -64,7 +65,7 @@ pub fn highest_point<C: Curve>(curve: &mut C, begin: i64, end: i64) -> Point
     ensures count { (C.state curve.new).count ≤ (C.state curve.old).count + 2 * unsigned_abs (end -ℤ begin) + 1 }
     ensures unchanged { (C.state curve.new).curve_model ≡ (C.state curve.old).curve_model }
 {
-    // Cells that by the curve's rate are under the highest point found until now are skipped, so that
+    // Cells that by the curve's rate are under the highest point found until now are skipped, so
     // the curve is evaluated at few minutes.
     let mut highest = highest_block(curve, begin, end);
     let mut front = walk_from(curve, highest, begin, end);
@@ -74,8 +75,9 @@ pub fn highest_point<C: Curve>(curve: &mut C, begin: i64, end: i64) -> Point
     highest
 }
 
-/// Returns the highest of the points at which the blocks of the minutes from `begin` up to but not
-/// including `end` begin. A search that starts with it can skip most cells, which are under it.
+/// Returns the highest of the points at which the blocks of the span begin: the minutes from
+/// `begin` up to but not including `end`, cut into blocks of 1,024 minutes. A search that starts
+/// with this point can skip most parts of the span, which are under it.
 fn highest_block<C: Curve>(curve: &mut C, begin: i64, end: i64) -> Point
     requires some { begin <ℤ end }
     requires first { (C.state curve.old).curve_model.curve_spec.first ≤ℤ begin }

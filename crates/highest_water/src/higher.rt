@@ -1,4 +1,4 @@
-//! The order of points by height.
+//! The order of points (a minute and the value at it) by height.
 
 ghost use Rattle.std.specs.Prelude.{◌≡◌};
 ghost use Rattle.highest_water.specs.Peaks.{is_higher};
@@ -8,16 +8,16 @@ use crate::peak_cell::PeakCell;
 use crate::walk::LocatedCell;
 use curve_law::Point;
 
-/// Returns true if `point` is higher than `highest`: its value is greater, or equal and its minute
-/// is earlier.
+/// Returns true if `point` is higher than `highest`: its value is greater, or is equal at an
+/// earlier minute.
 pub fn is_higher(highest: Point, point: Point) -> bool
     ensures { result ≡ is_higher highest.minute highest.value point.minute point.value }
 {
     point.value > highest.value || (point.value == highest.value && point.minute < highest.minute)
 }
 
-/// Returns the higher of two points: `highest` unless `point` has a greater value, or an equal one at an
-/// earlier minute.
+/// Returns `point` if its value is greater than the value of `highest`, or is equal at an earlier
+/// minute; otherwise `highest`.
 pub fn higher_of(highest: Point, point: Point) -> Point
     ensures { result ≡ higher_of highest point }
 {
@@ -28,7 +28,7 @@ pub fn higher_of(highest: Point, point: Point) -> Point
     }
 }
 
-/// Returns the highest point after the cell `found`: the point at which `found` begins if it is a single
+/// Returns the highest point known after the cell `found`: the cell's point if it is a single
 /// minute and higher than `highest`, and otherwise `highest`.
 pub fn raised_by(highest: Point, found: LocatedCell) -> Point
     ensures { result ≡ raised_by highest found }

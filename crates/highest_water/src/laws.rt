@@ -1,4 +1,4 @@
-//! Laws of highest waters, of their cells and of verdicts, over the law of curves.
+//! Theorems about highest waters, the cells that show them, and the verdicts of their check.
 
 ghost use Rattle.std.specs.Prelude.{◌≡◌, ℕ, ◌+◌, ◌-◌, ◌/◌, ◌<◌, ◌≤◌, ℤ, pos, ◌+ℤ◌, ◌≤ℤ◌, ◌<ℤ◌, true, false, [], ◌∷◌, ◌++◌, length};
 ghost use Rattle.curve_law.specs.declared.quiet.TheConstants.{MOST_MINUTES};
@@ -10,8 +10,8 @@ ghost use Rattle.highest_water.specs.Peaks.{IsHighest, highest_minute};
 ghost use Rattle.highest_water.specs.Covers.{all_minutes, is_under, peak_split, peak_cover, peak_of};
 ghost use Rattle.highest_water.specs.Verdicts.{peak_verdict};
 
-/// Proves that a span of at least one minute has exactly one highest water, and that an evaluation of
-/// each of its minutes finds it.
+/// Proves that a span of at least one minute has a highest water, the minute that is found by
+/// looking at each minute and its value, and that it has no other.
 pub fn spans_have_one_highest_water()
     ensures some { (c : CurveSpec) (a : ℤ) (n : ℕ) → 1 ≤ n →
         IsHighest c a (a +ℤ pos n) (highest_minute c a n) (c.track.value (highest_minute c a n)) }
@@ -20,9 +20,10 @@ pub fn spans_have_one_highest_water()
         (at ≡ other_at) × (value ≡ other_value) }
 {}
 
-/// Proves how a block of minutes is cut into cells for a highest water. A single minute, or a block
-/// that is under the highest water, is one cell. Any other block is cut into the cells of its first
-/// half, of `n / 2` minutes rounded down, followed by the cells of the rest.
+/// Proves how a block of `n` minutes from minute `a` on is cut into cells (`peak_split`) for a
+/// highest water with the minute `at` and this value. A single minute, or a block under the highest
+/// water, is one cell. Any other block is cut into the cells of its first half, `n / 2` minutes
+/// rounded down, followed by the cells of the rest.
 pub fn blocks_are_halved()
     ensures one_minute { (c : CurveSpec) (at value a : ℤ) → peak_split c at value a 1 ≡ PeakCell.Single ∷ [] }
     ensures under { (c : CurveSpec) (at value a : ℤ) (n : ℕ) → is_under c at value a n ≡ true →
@@ -32,9 +33,10 @@ pub fn blocks_are_halved()
         ≡ peak_split c at value a (n / 2) ++ peak_split c at value (a +ℤ pos (n / 2)) (n - n / 2) }
 {}
 
-/// Proves how a span is cut into cells for a highest water. An empty span has none. From a span of more
-/// than 1,024 minutes the first 1,024 are cut off as a block, and so on, until at most 1,024 minutes
-/// remain, which are the last block.
+/// Proves how a span of `n` minutes from minute `a` on is cut into cells (`peak_cover`) for a
+/// highest water with the minute `at` and this value. A span of no minutes has no cells. A span of
+/// at most 1,024 minutes is one block. From a longer span the first 1,024 minutes are cut off as a
+/// block, and the rest is cut in the same way.
 pub fn spans_are_cut_into_blocks()
     ensures no_minute { (c : CurveSpec) (at value a : ℤ) → peak_cover c at value a 0 ≡ [] }
     ensures last_block { (c : CurveSpec) (at value a : ℤ) (n : ℕ) → n ≤ MOST_MINUTES →
@@ -45,9 +47,9 @@ pub fn spans_are_cut_into_blocks()
         ++ peak_cover c at value (a +ℤ pos MOST_MINUTES) (n - MOST_MINUTES) }
 {}
 
-/// Proves that no minute of a cell that is under a point has a greater value than the point, nor an
-/// equal value at an earlier minute than the point's, and that the cell doesn't contain the point's
-/// minute.
+/// Proves for `n` minutes from minute `a` on that are under the point of the minute `at` and its
+/// value: none of them has a greater value, none of them before `at` has an equal value, and `at`
+/// isn't one of them.
 pub fn under_cells_hold_nothing_higher()
     ensures greatest { (c : CurveSpec) (at value a : ℤ) (n : ℕ) → IsLawful c → IsSpan c a n →
         is_under c at value a n ≡ true → (m : ℤ) → a ≤ℤ m → m <ℤ (a +ℤ pos n) → c.track.value m ≤ℤ value }
@@ -58,8 +60,8 @@ pub fn under_cells_hold_nothing_higher()
         a ≤ℤ at → (a +ℤ pos n) ≤ℤ at }
 {}
 
-/// Proves that a highest water that the check accepts for a span is the span's, however it was made:
-/// its minute and value are those that an evaluation of each minute finds.
+/// Proves for any peak, however it was made: if the check accepts it for a span, its minute and
+/// value are the span's highest water, as an evaluation of each minute finds it.
 pub fn accepted_highest_waters_are_right()
     ensures highest { (c : CurveSpec) (a : ℤ) (n : ℕ) (peak : Peak) → IsLawful c → IsSpan c a n →
         peak_verdict c a n peak ≡ PeakVerdict.Accepted → IsHighest c a (a +ℤ pos n) peak.at peak.value }
@@ -68,9 +70,10 @@ pub fn accepted_highest_waters_are_right()
         (peak.at ≡ highest_minute c a n) × (peak.value ≡ c.track.value (highest_minute c a n)) }
 {}
 
-/// Proves what holds for the cells that are made for a span by halving its blocks until each part is
-/// under a highest water or a single minute. They cover all its minutes, there are no more cells than
-/// minutes, and the check accepts the span's highest water with these cells.
+/// Proves what is true of the cells that are made for a span by halving its blocks until each part
+/// is a single minute or under the point of the minute `at` and its value (`peak_cover`). They have
+/// as many minutes as the span, and there are no more cells than minutes. With these cells the
+/// check accepts the span's highest water.
 pub fn covers_are_accepted()
     ensures minutes { (c : CurveSpec) (at value a : ℤ) (n : ℕ) → all_minutes (peak_cover c at value a n) ≡ n }
     ensures count_bound { (c : CurveSpec) (at value a : ℤ) (n : ℕ) → length (peak_cover c at value a n) ≤ n }
@@ -81,8 +84,8 @@ pub fn covers_are_accepted()
         peak_verdict c a n (peak_of c a n) ≡ PeakVerdict.Accepted }
 {}
 
-/// Proves that the highest water of a span, its cells and the verdicts on it don't depend on the
-/// curve's first and last minute, only on its values and rates.
+/// Proves that the highest water of a span, its cells and the verdicts of the check are the same
+/// for two curves that differ only in their first and last minute.
 pub fn highest_waters_are_those_of_more_minutes()
     ensures peak { (c : CurveSpec) (first last a : ℤ) (n : ℕ) → peak_of (at_minutes first last c) a n ≡ peak_of c a n }
     ensures verdicts { (c : CurveSpec) (first last a : ℤ) (n : ℕ) (peak : Peak) →

@@ -1,4 +1,4 @@
-//! The lengths of cells.
+//! The numbers of minutes of cells.
 
 ghost use Rattle.std.specs.Prelude.{◌≡◌, ◌-◌, ◌^◌, pos, min};
 ghost use Rattle.highest_water.specs.Covers.{minutes_of, all_minutes};
@@ -15,8 +15,8 @@ pub fn minutes_of(cell: PeakCell) -> u32
     }
 }
 
-/// Returns the number of minutes of all `cells` together, or the greatest `i64` if the number exceeds
-/// it.
+/// Returns the number of minutes of all `cells` together, or the greatest `i64` if the number
+/// exceeds it.
 #[tactic(auto, using(crate::proofs::LengthLemmas::covering))]
 pub fn covered_by(cells: &[PeakCell]) -> i64
     ensures { result ≡ pos (min (all_minutes cells.now) (2 ^ 63 - 1)) }

@@ -1,9 +1,10 @@
-//! The highest water of a span, found and checked.
+//! The highest water of a span of time, found and checked: the first minute with a curve's greatest
+//! value.
 //!
-//! A [`Peak`] is the first minute with a curve's greatest value, this value, and the cells that show it:
-//! cells in which the curve's rate excludes a greater value, and before that minute an equal one, and
-//! single minutes. [`find_peak`] finds a peak, and [`check_peak`] checks one that any program may have
-//! made. `specs/` has the definition of each.
+//! A [`Peak`] is this minute, its value, and the cells that show it: parts of the span in which the
+//! bound on the curve's change in a minute excludes a greater value (and before that minute an
+//! equal one), and single minutes. [`find_peak`] finds a peak, and [`check_peak`] checks a peak
+//! that any program may have made. The definitions are in `specs/`.
 #![tactic(auto)]
 
 mod checking;

@@ -1,10 +1,12 @@
-//! The cells of a highest water.
+//! The cells that show a highest water.
 
-/// A cell of a certificate of a highest water: consecutive minutes of the span.
+/// A cell of a certificate of a highest water: consecutive minutes of the span, and the claim that
+/// they aren't higher.
 #[derive(Clone, Copy, PartialEq, Eq)]
 pub enum PeakCell {
-    /// A cell of 2 to 1,024 minutes, both included, that is under the highest water: no minute of it
-    /// has a greater value, and none before the minute of the highest water has an equal value.
+    /// A cell of this number of minutes, from 2 to 1,024, that is under the highest water: by the
+    /// bound on the curve's change in a minute, none of its values is greater, and none before the
+    /// minute of the highest water is equal. It doesn't have the minute of the highest water.
     Under(u32),
     /// A single minute, which the check evaluates.
     Single,

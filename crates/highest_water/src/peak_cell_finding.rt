@@ -13,7 +13,8 @@ use crate::verdict::PeakVerdict;
 use curve_law::{Curve, Point};
 
 /// Returns the verdict on `cell`, which has the number `number`, counted from 1, and begins at the
-/// point `at`. `end_value` is the value at the cell's end, and `highest` the claimed highest water.
+/// point `at`. `end_value` is the curve's value at the cell's end, and `highest` is the claimed
+/// highest water, with a value below 10^37 in size.
 pub fn finding_on<C: Curve>(
     curve: &C,
     highest: Point,
@@ -36,7 +37,8 @@ pub fn finding_on<C: Curve>(
     }
 }
 
-/// Returns the verdict on a cell of several minutes.
+/// Returns the verdict on the cell `number`, which claims several minutes under the highest water;
+/// `is_under` says whether they are.
 fn under_finding(number: u32, is_under: bool) -> PeakVerdict
     ensures { result ≡ under_finding number is_under }
 {
@@ -47,8 +49,8 @@ fn under_finding(number: u32, is_under: bool) -> PeakVerdict
     }
 }
 
-/// Returns the verdict on a single minute: the minute of the highest water must have the written value,
-/// and no other minute may be higher.
+/// Returns the verdict on the cell `number`, the single minute of the point `at`: the minute of the
+/// highest water must have the claimed value, and any other minute must not be higher.
 fn single_finding(highest: Point, number: u32, at: Point) -> PeakVerdict
     ensures { result ≡ single_finding highest number at }
 {
@@ -61,7 +63,8 @@ fn single_finding(highest: Point, number: u32, at: Point) -> PeakVerdict
     PeakVerdict::Accepted
 }
 
-/// Returns the verdict on the written value of the highest water.
+/// Returns the verdict on the value of the highest water: `written` is the claimed value, and
+/// `computed` the curve's.
 fn value_finding(written: i128, computed: i128) -> PeakVerdict
     ensures { result ≡ value_finding written computed }
 {

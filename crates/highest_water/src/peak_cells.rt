@@ -1,11 +1,12 @@
-//! A list of cells.
+//! A list of the cells of a highest water.
 
 ghost use Rattle.std.specs.Prelude.{◌≡◌};
 
 use crate::peak_cell::PeakCell;
 use std::marker::Model;
 
-/// Consecutive cells. In contracts its value is the list of the cells.
+/// The cells of a highest water, in order of time and without gaps. In contracts its value is the
+/// list of the cells.
 #[derive(Drop)]
 pub struct PeakCells {
     items: Vec<PeakCell>,

@@ -1,4 +1,4 @@
-//! Cells that are under the highest water.
+//! Cells of several minutes that are under a highest water.
 
 ghost use Rattle.std.specs.Prelude.{◌≡◌, ◌*◌, ◌^◌, ◌<◌, ◌≤◌, pos, ◌+ℤ◌, ◌*ℤ◌, ◌≤ℤ◌, ◌<ℤ◌, unsigned_abs, int_lt, int_le, if◌then◌else◌};
 ghost use Rattle.curve_law.specs.declared.quiet.TheConstants.{MOST_MINUTES};
@@ -8,10 +8,11 @@ ghost use Rattle.highest_water.specs.Verdicts.{is_inside};
 
 use curve_law::{Curve, MOST_MINUTES, Point, most_change};
 
-/// Returns true if the cell of the `n` minutes from the point `begin` on is under `highest`: by the
-/// curve's rate no minute of it has a greater value than `highest`, nor an equal value if it is before
-/// `highest`, and it doesn't contain the minute of `highest`. `end_value` is the value at the cell's
-/// end.
+/// Returns true if the `n` minutes from the point `begin` on are under `highest`: `n` is from 2 to
+/// 1,024, the minute of `highest` isn't one of them, and by the curve's rate (a bound on its change
+/// in a minute) their values are all less than the value of `highest` if they are before it, and
+/// none is greater if they are after it. Without a rate it returns false. `end_value` is the value
+/// at the minute `n` minutes after `begin`.
 pub fn is_under<C: Curve>(curve: &C, highest: Point, begin: Point, n: u32, end_value: i128) -> bool
     requires size { unsigned_abs highest.value < 10 ^ 37 }
     requires span { IsSpan (C.state curve.now).curve_model.curve_spec begin.minute n }
@@ -36,8 +37,8 @@ pub fn is_under<C: Curve>(curve: &C, highest: Point, begin: Point, n: u32, end_v
     }
 }
 
-/// Returns true if `minute` is one of the `n` minutes from `begin` on: not before `begin`, and before
-/// `begin + n`.
+/// Returns true if `minute` is one of the `n` minutes from `begin` on: not before `begin`, and
+/// before `begin + n`.
 fn holds(begin: i64, n: u32, minute: i64) -> bool
     requires in_range { unsigned_abs begin ≤ 2 ^ 60 }
     ensures { result ≡ is_inside minute begin n }
@@ -45,8 +46,8 @@ fn holds(begin: i64, n: u32, minute: i64) -> bool
     begin <= minute && minute < begin + i64::from(n)
 }
 
-/// Returns twice the greatest value that `rate`, a bound on the change in a minute, allows between
-/// `value` and `end_value`, `n` minutes apart.
+/// Returns `value + end_value + rate * n`. If a value changes by at most `rate` in each minute,
+/// none between the values `value` and `end_value`, `n` minutes apart, exceeds half of this.
 fn twice_most(rate: i128, n: u32, value: i128, end_value: i128) -> i128
     requires positive { pos 0 ≤ℤ rate }
     requires rate { (rate *ℤ pos MOST_MINUTES) <ℤ pos (5 * 10 ^ 37) }
@@ -59,8 +60,9 @@ fn twice_most(rate: i128, n: u32, value: i128, end_value: i128) -> i128
     value + end_value + most_change(rate, n)
 }
 
-/// Returns true if the greatest value that a cell may have, half of `twice_most`, is low enough: at most
-/// `value` if the cell is after the highest water, and below `value` if it is before.
+/// Returns true if `twice_most`, a bound on twice the values in a cell, is low enough: at most
+/// twice `value` if the cell is after the highest water, and less than twice `value` if it is
+/// before.
 fn is_low(twice_most: i128, value: i128, is_after: bool) -> bool
     requires size { unsigned_abs value < 10 ^ 37 }
     ensures { result ≡ (if is_after then int_le twice_most (pos 2 *ℤ value) else int_lt twice_most (pos 2 *ℤ value)) }

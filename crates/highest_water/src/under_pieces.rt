@@ -1,4 +1,4 @@
-//! Pieces that are under a point.
+//! The rule that leaves the minutes under a point whole.
 
 ghost use Rattle.std.specs.Prelude.{◌<◌, ◌^◌, unsigned_abs};
 
@@ -6,9 +6,11 @@ use crate::under::is_under;
 use curve_law::{Curve, Point, point_at};
 use interval_search::{Piece, PieceRule};
 
-/// The rule that leaves a piece whole if it is under the point `highest`, by exact values of the curve.
+/// The rule that leaves a piece of a span whole if it is under the point `highest` (by the bound on
+/// the curve's change in a minute no minute of it is higher). It evaluates the curve exactly.
 #[derive(Drop)]
 pub struct UnderPieces {
+    /// The point, with a value below 10^37 in size.
     pub highest: Point,
     ghost small: { unsigned_abs highest.value < 10 ^ 37 },
 }

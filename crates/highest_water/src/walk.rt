@@ -1,4 +1,4 @@
-//! A walk over a span, cell by cell.
+//! A walk over a span, one cell of a highest water after the other.
 
 ghost use Rattle.std.specs.Prelude.{◌≡◌, ◌+◌, ◌^◌, ◌<◌, ◌≤◌, ◌≤ℤ◌, unsigned_abs, [], length, MatchOption};
 ghost use Rattle.curve_law.specs.declared.point.Point.{Point};
@@ -12,14 +12,17 @@ use crate::under_pieces::UnderPieces;
 use curve_law::{Curve, Point};
 use interval_search::{Front, Piece, front_at, next_piece};
 
-/// A cell, and the point at which it begins.
+/// A cell, and the point (the minute and the curve's value) at which it begins.
 #[derive(Clone, Copy)]
 pub struct LocatedCell {
+    /// The point at which the cell begins.
     pub at: Point,
+    /// The cell: several minutes under a point, or a single minute.
     pub cell: PeakCell,
 }
 
-/// Returns the cell of a piece that isn't halved.
+/// Returns the cell of a piece that isn't halved: a single minute if it is one, and otherwise a
+/// cell of all its minutes.
 fn cell_of(piece: Piece) -> PeakCell
     ensures { result ≡ cell_of (interval_of piece) }
 {
@@ -31,8 +34,8 @@ fn cell_of(piece: Piece) -> PeakCell
 }
 
 /// Returns the start of a walk over the cells of the minutes from `begin` up to but not including
-/// `end`, both minutes of `curve`, which is evaluated once. `highest` is the highest point found until
-/// now.
+/// `end`, both minutes of `curve`, which is evaluated once, at `begin`. The result is the same for
+/// each `highest`, a point with a value below 10^37 in size.
 pub fn walk_from<C: Curve>(curve: &mut C, highest: Point, begin: i64, end: i64) -> Front
     requires size { unsigned_abs highest.value < 10 ^ 37 }
     requires forward { begin ≤ℤ end }
@@ -51,7 +54,8 @@ pub fn walk_from<C: Curve>(curve: &mut C, highest: Point, begin: i64, end: i64) 
 }
 
 /// Moves the walk past the next cell, and returns this cell with the point at which it begins, or
-/// `None` at the end. A cell of several minutes is under the point `highest`.
+/// `None` if the walk is at the end of its span. A cell of several minutes is under the point
+/// `highest`, which may be another one at each call.
 pub fn next_cell<C: Curve>(curve: &mut C, front: &mut Front, highest: Point) -> Option<LocatedCell>
     requires size { unsigned_abs highest.value < 10 ^ 37 }
     requires walk_invariant { IsFront (C.state curve.old).curve_model.curve_spec.track.value (C.state curve.old) front.old }

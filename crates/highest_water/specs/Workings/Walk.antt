@@ -1,4 +1,4 @@
--- The cells ahead of a walk over a span. No public clause cites this.
+-- The cells that a walk over a span has still to reach. No public clause cites this.
 use Rattle.std.specs.Prelude.{◌≡◌, ℤ, pos, ◌+ℤ◌, ◌≤ℤ◌, true, List, [], ◌∷◌, map, Option, Some, None, if◌then◌else◌}
 use Rattle.curve_law.specs.declared.point.Point.{Point}
 use Rattle.curve_law.specs.CurveSpec.{CurveSpec}
@@ -10,17 +10,19 @@ use Rattle.highest_water.specs.declared.walk.LocatedCell.{LocatedCell}
 use Rattle.highest_water.specs.Peaks.{is_higher}
 use Rattle.highest_water.specs.Covers.{minutes_of, is_under, cell_of}
 
--- the cells of the pieces that a walk has still to reach, for this highest point
+-- the cells that a walk has still to reach, if `highest` is the highest point at each step
 unfoldable pub cells_ahead : CurveSpec → Point → Front → List PeakCell
 cells_ahead c highest front = map cell_of (pieces_ahead (is_under c highest.minute highest.value) front)
 
--- a cell that is one minute, or is under the highest water
+-- `IsRight c highest a cell`: the cell is a single minute, or it begins at minute `a` and is under
+-- the point `highest`
 abbrev pub IsRight : CurveSpec → Point → ℤ → PeakCell → Type 0
 IsRight c highest a (Under n) = is_under c highest.minute highest.value a n ≡ true
 IsRight c highest a Single = Unit {0}
 
--- a step of a walk returns the first of the cells ahead and moves to its end, or returns None if no cell
--- is ahead
+-- `StepsTo c highest old result new`: a step of a walk from the state `old` to `new` returns the
+-- first cell ahead and moves to its end, which isn't after the end of the span; or it returns None,
+-- and no cell is ahead
 abbrev pub StepsTo : CurveSpec → Point → Front → Option LocatedCell → Front → Type 0
 StepsTo c highest old None new =
     (old.at.minute ≡ old.end) × (old.pending ≡ []) × (cells_ahead c highest old ≡ [])
@@ -31,16 +33,17 @@ StepsTo c highest old (Some found) new =
     × IsRight c highest old.at.minute found.cell
     × (new.at.minute ≤ℤ old.end)
 
--- the higher of two points
+-- the point `point` if it is higher than `highest`, otherwise `highest`
 abbrev pub higher_of : Point → Point → Point
 higher_of highest point =
     if is_higher highest.minute highest.value point.minute point.value then point else highest
 
--- the highest point after another cell, which begins at a point
+-- the highest point known after a cell that begins at `point`: `point` if the cell is a single
+-- minute and `point` is higher, otherwise `highest`
 abbrev pub raised_at : Point → Point → PeakCell → Point
 raised_at highest point (Under n) = highest
 raised_at highest point Single = higher_of highest point
 
--- the highest point after another cell
+-- the highest point known after the cell `found`
 abbrev pub raised_by : Point → LocatedCell → Point
 raised_by highest found = raised_at highest found.at found.cell
