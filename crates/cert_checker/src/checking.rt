@@ -1,4 +1,4 @@
-//! The check of a track's cells.
+//! The check of a track's cells, however they were made.
 
 ghost use Rattle.std.specs.Prelude.{◌≡◌, ◌+◌, ◌<◌, ◌≤◌, ◌^◌, pos, ◌+ℤ◌, ◌-ℤ◌, ◌≤ℤ◌, unsigned_abs, length};
 ghost use Rattle.curve_law.specs.declared.verdict.Verdict.{Verdict};
@@ -12,12 +12,14 @@ use crate::covering::{covered_by, minutes_of};
 use crate::finding::finding_on;
 use curve_law::{Cell, Cells, Curve, Point, Verdict, approximate_point_at};
 
-/// Checks that `cells` are true of the minutes from `begin` up to but not including `end`, both minutes
-/// of `curve`: first their number of minutes, then each cell in turn. Accepted cells have exactly the
-/// events of the span.
+/// Checks that `cells` are true of the minutes from `begin` up to but not including `end`: first
+/// that they have as many minutes, then each cell in turn. If they are accepted, the events in the
+/// cells are exactly the events of the span.
 ///
-/// There are fewer than 2^32 cells, and the cells and the earlier evaluations of the curve together
-/// number at most 2^62. The call evaluates the curve at most once per cell, plus once.
+/// The caller ensures that `begin` and `end` are both minutes of `curve` and `begin` isn't after
+/// `end`, that there are fewer than 2^32 cells, and that the cells and the earlier evaluations of
+/// the curve together number at most 2^62. The call evaluates the curve at most once per cell, plus
+/// once.
 ///
 /// # Examples
 /// ```
@@ -50,8 +52,8 @@ pub fn check_track<C: Curve>(curve: &mut C, cells: &Cells, begin: i64, end: i64)
     first_finding(curve, cells.as_slice(), begin)
 }
 
-/// Returns the first fault of `cells`, of which the first begins at minute `begin`, or
-/// [`Verdict::Accepted`] if there is none.
+/// Returns the first fault of `cells`, or [`Verdict::Accepted`] if there is none. The first cell
+/// begins at minute `begin`, and each other cell where the one before it ends.
 fn first_finding<C: Curve>(curve: &mut C, cells: &[Cell], begin: i64) -> Verdict
     requires span { IsSpan (C.state curve.old).curve_model.curve_spec begin (all_minutes cells.now) }
     requires count_bound { length cells.now < 2 ^ 32 }
@@ -73,8 +75,8 @@ fn first_finding<C: Curve>(curve: &mut C, cells: &[Cell], begin: i64) -> Verdict
     Verdict::Accepted
 }
 
-/// Evaluates `curve` approximately at the end of `cell`, which begins at minute `begin`, and returns
-/// the point.
+/// Evaluates `curve` approximately at the end of `cell`, which begins at minute `begin`, and
+/// returns this minute with the approximate value.
 fn end_of<C: Curve>(curve: &mut C, begin: i64, cell: Cell) -> Point
     requires span { IsSpan (C.state curve.old).curve_model.curve_spec begin (minutes_of cell) }
     requires count_bound { (C.state curve.old).count < 2 ^ 63 }

@@ -1,4 +1,4 @@
-//! The number of minutes of cells.
+//! The numbers of minutes of cells.
 
 ghost use Rattle.std.specs.Prelude.{◌≡◌, ◌-◌, ◌^◌, pos, min};
 ghost use Rattle.curve_law.specs.Cells.{minutes_of, all_minutes};

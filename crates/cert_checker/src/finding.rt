@@ -12,8 +12,8 @@ use curve_law::{
     unit_cell_from_approximate,
 };
 
-/// Returns the verdict on `cell`, which has the number `number`, counted from 1, and begins at the
-/// point `at`, which has the approximate value there. `end_value` is the approximate value at the
+/// Returns the verdict on `cell`, which has the number `number`, counted from 1. `at` is its first
+/// minute with the curve's approximate value at it, and `end_value` is the approximate value at the
 /// cell's end.
 #[tactic(auto, using(crate::proofs::FindingLemmas::findings))]
 pub fn finding_on<C: Curve>(
@@ -38,8 +38,10 @@ pub fn finding_on<C: Curve>(
     }
 }
 
-/// Returns true if the `minutes` minutes from the point `at` on can be one quiet cell. `at` has the
-/// approximate value there, and `end_value` is the one at the end.
+/// Returns true if the `minutes` minutes from the point `at` on can be one quiet cell (2 to 1,024
+/// minutes in which, by a bound on the curve's change in a minute, its value can't cross 0). `at`
+/// has the curve's approximate value at its minute, and `end_value` is the approximate value at the
+/// end.
 fn is_quiet_cell<C: Curve>(curve: &C, minutes: u32, at: Point, end_value: i128) -> bool
     requires span { IsSpan (C.state curve.now).curve_model.curve_spec at.minute minutes }
     requires value { at.value ≡ (C.state curve.now).curve_model.approximate at.minute }
@@ -52,6 +54,8 @@ fn is_quiet_cell<C: Curve>(curve: &C, minutes: u32, at: Point, end_value: i128) 
     is_quiet_from_approximate(curve, at.minute, minutes, at.value, end_value)
 }
 
+/// Returns the verdict on the cell `number`, which claims to be quiet; `is_quiet` says whether it
+/// is.
 fn quiet_finding(number: u32, is_quiet: bool) -> Verdict
     ensures { result ≡ quiet_finding number is_quiet }
 {
@@ -62,8 +66,8 @@ fn quiet_finding(number: u32, is_quiet: bool) -> Verdict
     }
 }
 
-/// Returns the verdict on `cell`, a cell of one minute with this number, counted from 1; `right` is the
-/// correct cell.
+/// Returns the verdict on `cell`, a cell of one minute with the number `number`, counted from 1.
+/// `right` is the correct cell of this minute.
 fn unit_finding(number: u32, cell: Cell, right: Cell) -> Verdict
     ensures { result ≡ unit_finding number cell right }
 {
@@ -76,6 +80,8 @@ fn unit_finding(number: u32, cell: Cell, right: Cell) -> Verdict
     }
 }
 
+/// Returns the verdict on an event's level in the cell `number`: `written` is the claimed level,
+/// and `computed` the track's, both in millionths of the station's unit.
 fn level_finding(number: u32, written: i64, computed: i64) -> Verdict
     ensures { result ≡ level_finding number written computed }
 {

@@ -1,7 +1,8 @@
-//! The check of a track's cells, however they were made.
+//! The check of a track's cells (consecutive minutes, and which event is after them), however they
+//! were made.
 //!
-//! [`check_track`] depends on a curve and cells only, not on tides or on how a search cuts a span. It
-//! evaluates the curve once at each cell's end, and doesn't allocate.
+//! [`check_track`] depends on a curve and cells only, not on tides or on how a search cuts a span.
+//! It evaluates the curve at most once per cell, plus once, and doesn't allocate.
 #![tactic(auto)]
 
 mod checking;
