@@ -1,4 +1,4 @@
-//! The events of one search, one at a time.
+//! The events of one search of a curve, one at a time.
 
 ghost use Rattle.std.specs.Prelude.{◌≡◌, ◌+◌, ◌^◌, ◌<◌, ◌≤◌, drop, length, [], None, option_to_list};
 ghost use Rattle.curve_law.specs.Cells.{event_in};
@@ -42,8 +42,9 @@ impl<C: Curve> Model for Coming<C> {
 impl<C: Curve> Coming<C> {
     ghost use Rattle.event_list.specs.Workings.Coming.{events_ahead, cells_ahead, first_of};
 
-    /// Returns the events in the remaining cells of `search`, which may have returned cells already; no
-    /// events if `search` is `None`. `search` has at most 2^61 remaining cells.
+    /// Returns the events in the remaining cells of `search`, which may have returned cells
+    /// already; no events if `search` is `None`. The contract also says that at most 2^61 cells of
+    /// `search` remain; the caller doesn't have to ensure it.
     pub fn new(search: Option<Search<C>>) -> Coming<C>
         ensures remaining { result.remaining ≡ events_ahead search }
         ensures pending { result.pending ≡ pending None search }
@@ -112,7 +113,8 @@ fn cells_are_few<C: Curve>(search: &Option<Search<C>>)
     }
 }
 
-/// Returns the next event of `search`, and counts the cells up to it.
+/// Returns the next event of `search`, or `None` if no event remains, and adds the number of cells
+/// that the search has returned for it to `cells_given`.
 #[inline(never)]
 fn next_event<C: Curve>(search: &mut Option<Search<C>>, cells_given: &mut u64) -> Option<Event>
     requires { cells_given.old + cells_ahead search.old < 2 ^ 64 }
@@ -129,6 +131,8 @@ fn next_event<C: Curve>(search: &mut Option<Search<C>>, cells_given: &mut u64) -
     None
 }
 
+/// Returns the next cell of `search` and the minute at which it begins, or `None` if no cell
+/// remains or there is no search.
 #[inline(always)]
 fn next_found<C: Curve>(search: &mut Option<Search<C>>) -> Option<Found>
     ensures { FindsNext search.old result search.new }
@@ -139,7 +143,7 @@ fn next_found<C: Curve>(search: &mut Option<Search<C>>) -> Option<Found>
     }
 }
 
-/// Returns the event in the cell `found`, if it has one.
+/// Returns the event in the cell `found`, or `None` if the cell has none.
 fn event_in(found: Found) -> Option<Event>
     ensures { option_to_list result ≡ event_in found.at found.cell }
 {

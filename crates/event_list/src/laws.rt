@@ -63,9 +63,11 @@ pub fn accepted_events_can_be_moved()
         AreValidOver f s → AllHaveLevels f → AreAccepted f s t → All IsMovable (merged_of s.begin t) }
 {}
 
-/// Proves that each event of a station is at a minute from `begin` up to but not including `end`; that
-/// it has a name in the unit if both kinds of events of each requested curve have one; and that offsets
-/// in their ranges make levels of at most 1,110,000,000,000 millionths of the unit in size.
+/// Proves three facts about a station's events. Each is at a minute from `begin` up to but not
+/// including `end`. Each has a name in the unit if the events of each requested curve have names,
+/// both where its value rises above 0 and where it falls to 0. And offsets in their ranges make
+/// levels of at most 1,110,000,000,000 millionths of the unit in size from levels of at most
+/// 11,000,000,000.
 pub fn events_are_named()
     ensures within { (f : Followed) (b : Basis) (begin end : ℤ) →
         All (λ e. (begin ≤ℤ e.minute) × (e.minute <ℤ end)) (station_events f b begin end) }

@@ -1,4 +1,4 @@
-//! The track with the first event.
+//! Which of three tracks has the first of their next events.
 
 ghost use Rattle.std.specs.Prelude.{◌≡◌};
 ghost use Rattle.event_list.specs.Merging.{leading, leads};
@@ -7,11 +7,15 @@ ghost use Rattle.event_list.specs.Workings.Coming.{IsLeading};
 use crate::rank::comes_before;
 use curve_law::Event;
 
-/// The track with the first event in listing order, among the next events of three tracks.
+/// The track with the first event in listing order (by minute, then by kind, then by level), among
+/// the next events of a station's three tracks.
 #[derive(Clone, Copy)]
 pub enum Leading {
+    /// The track of high and low waters.
     Turn,
+    /// The track of slack waters.
     Slack,
+    /// The track of the crossings of a mark (a level that the request names).
     Mark,
 }
 

@@ -37,8 +37,9 @@ impl<A: Curve, B: Curve> Model for Merge<A, B> {
 }
 
 impl<A: Curve, B: Curve> Merge<A, B> {
-    /// Returns the merge of the searches `turn`, `slack` and `mark`, which have all reached the same
-    /// minute. A track has no events if its search is `None`.
+    /// Returns the merge of the searches of a station's high and low waters, slack waters and
+    /// crossings of a mark, which have all reached the same minute. If `slack` or `mark` is `None`,
+    /// there are no events of this kind.
     pub fn new(turn: Search<A>, slack: Option<Search<B>>, mark: Option<Search<B>>) -> Merge<A, B>
         requires slack_at { ForSome slack (λ search. search.at ≡ turn.at) }
         requires mark_at { ForSome mark (λ search. search.at ≡ turn.at) }

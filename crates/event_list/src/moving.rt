@@ -26,6 +26,7 @@ pub fn moved(basis: &Basis, event: &Event) -> Event
     }
 }
 
+/// Returns the offset that `basis` has for events of this kind.
 fn offset_of(basis: &Basis, kind: Kind) -> Offset
     requires { HasOffsets basis.now }
     ensures exact { result ≡ offset_of basis.now kind }
@@ -39,7 +40,7 @@ fn offset_of(basis: &Basis, kind: Kind) -> Offset
     }
 }
 
-/// Returns the offset that adds `add` minutes and leaves the level unchanged.
+/// Returns the minute `add` minutes after `minute`, or before it if `add` is negative.
 fn later_by(add: i32) -> Offset
     requires { IsAdd add }
     ensures exact { result ≡ later_by add }

@@ -19,6 +19,7 @@ pub fn scaled(offset: &Offset, level: i64) -> i64
     raised(level, offset.plus)
 }
 
+/// Returns the product of a level and a factor, both in millionths.
 fn product(level: i64, times: i64) -> i128
     requires level { unsigned_abs level ≤ 11000000000 }
     requires times { unsigned_abs times ≤ 100000000 }
@@ -28,6 +29,7 @@ fn product(level: i64, times: i64) -> i128
     i128::from(level) * i128::from(times)
 }
 
+/// Returns the level with the height `plus` added, both in millionths of the unit.
 fn raised(level: i128, plus: i64) -> i64
     requires level { unsigned_abs level ≤ 2000000000000 }
     requires plus { unsigned_abs plus ≤ 10000000000 }

@@ -37,6 +37,7 @@ pub fn shifted(
     Ok(Events::from_vec(in_order(kept)))
 }
 
+/// Returns true if `event` is at a minute from `begin` up to but not including `end`.
 fn is_within(event: &Event, begin: i64, end: i64) -> bool
     ensures { result ≡ is_within begin end event.now }
 {

@@ -84,6 +84,7 @@ pub fn add_followed_events(
     }
 }
 
+/// Returns the number of minutes of `cell`.
 fn minutes(cell: Cell) -> u32
     ensures { result ≡ minutes_of cell }
 {

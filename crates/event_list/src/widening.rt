@@ -28,6 +28,7 @@ pub fn widened(basis: &Basis, begin: i64, end: i64) -> Span
     }
 }
 
+/// Returns the greatest number of minutes that an offset of `basis` adds to an event's time.
 fn greatest_add(basis: &Basis) -> i32
     ensures exact { result ≡ greatest_add basis.now }
     ensures high { basis.now.high.add ≤ℤ result }
@@ -39,6 +40,7 @@ fn greatest_add(basis: &Basis) -> i32
     }
 }
 
+/// Returns the least number of minutes that an offset of `basis` adds to an event's time.
 fn least_add(basis: &Basis) -> i32
     ensures exact { result ≡ least_add basis.now }
     ensures high { result ≤ℤ basis.now.high.add }
