@@ -20,7 +20,7 @@ part_sine_of k = int_shr (isin_of (middle_of k) +ℤ pos (2 ^ 14)) 15
 abbrev pub approximate_sine_of : ℕ → ℤ
 approximate_sine_of binary_angle = part_sine_of (binary_angle / 2 ^ 51)
 
--- a bound on the difference between the approximate sine, multiplied by 2^15, and the sine, in
--- billionths
+-- a bound, in billionths, on the difference between the approximate sine, multiplied by 2^15 so
+-- that it is in billionths too, and the sine
 abbrev pub approximate_error : ℕ
 approximate_error = 400000

@@ -66,15 +66,17 @@ prediction_of b s = prediction_over b s (year_start_of b.first_year) (year_start
 abbrev pub waves_for : Prediction → ℕ → List WaveSpec
 waves_for c year = waves_over c.book c.station c.first c.last year
 
--- the four sums (`amount`, `steep`, `near`, `far`) over the waves of the year with index `year` (0 for
--- the book's first) in the prediction c; all 0 if the year is more than an hour from the prediction's
--- minutes
+-- four sums over the waves of the year with index `year` (0 for the book's first) in the prediction
+-- c: `amount` of the amplitudes, `steep` of amplitude times speed, and `near` and `far`, bounds on
+-- the change of the level and of the slope in a minute; all 0 if the year is more than an hour from
+-- the prediction's minutes
 abbrev pub sums_for : Prediction → ℕ → Sums
 sums_for c year = sums_of (waves_for c year)
 
--- the limit that a station's constants exceed in the year with index `year` (0 for the book's first):
--- TooLarge with the calendar year if the amplitudes sum to more than `most_amount`, else TooSteep if
--- amplitude times speed sums to more than `most_steepness`; None if the year is within both
+-- the limit that a station's constants exceed in the year with index `year` (0 for the book's
+-- first), with the calendar year: TooLarge if the amplitudes sum to more than 10^9 millionths, else
+-- TooSteep if amplitude times speed, in units of 1/600,000,000 degree a minute, sums to more than
+-- 10^17; None if the year is within both
 unfoldable pub year_fault : Book → Station → ℕ → Option CurveFault
 year_fault b s year =
     if nat_lt most_amount (amount_of (waves_of b s year)) then Some (TooLarge (b.first_year +ℤ pos year))
@@ -106,8 +108,8 @@ unfoldable pub curve_over : Book → Station → ℤ → ℤ → Result Predicti
 curve_over b s first last =
     if is_hydraulic s.units then Err Hydraulic else unless_fault (prediction_over b s first last) (first_fault b s b.years)
 
--- the curve of a station for all minutes of the book's years and the first minute after them, or the
--- reason why the station has none
+-- the curve of a station for all minutes of the book's years and the first minute after them, or
+-- the reason why it has none: it is a hydraulic current, or a year of the book exceeds a limit
 unfoldable pub curve_of : Book → Station → Result Prediction CurveFault
 curve_of b s = curve_over b s (year_start_of b.first_year) (year_start_of (b.first_year +ℤ pos b.years))
 
@@ -122,10 +124,11 @@ pub record AreTimes (b : Book) : Type 0 where
   pub years : AreYears b.first_year b.years
   pub speeds : (k : ℕ) → k < length b.constituents → (pos 0 ≤ℤ speed_of b k) × (speed_of b k ≤ℤ pos 3600000000)
 
--- the station s of the book b is within the limits of a curve: its mean level is at most 10^10
--- millionths of its unit in absolute value, and in each year the absolute values of its amplitudes sum
--- to at most 10^9 millionths, and, each multiplied by the speed in units of 1/600,000,000 degree a
--- minute, to at most 10^17
+-- the station s of the book b is within the limits of a curve: the book's years and speeds are in
+-- their ranges (`times`), the mean level is at most 10^10 millionths of the station's unit in
+-- absolute value, and in each year the absolute values of the amplitudes sum to at most 10^9
+-- millionths, and, each multiplied by the speed in units of 1/600,000,000 degree a minute, to at
+-- most 10^17
 pub record IsWithinLimits (b : Book) (s : Station) : Type 0 where
   pub times : AreTimes b
   pub datum : unsigned_abs s.datum ≤ 10 ^ 10

@@ -22,19 +22,22 @@ abbrev pub greatest_steepness : Prediction → ℕ
 greatest_steepness c = greatest_of (λ year. steepness_of (waves_for c year)) c.book.years
 
 -- a bound on the difference between the approximate level and the level at each minute of the
--- prediction c, in billionths of a millionth of the station's unit, multiplied by 4,147,200,000 (the
--- total weight of a blend)
+-- prediction c: the error of an approximate sine times the greatest sum of a year's amplitudes; in
+-- billionths of a millionth of the station's unit, multiplied by 4,147,200,000 (the total weight of
+-- a blend)
 unfoldable pub level_error_of : Prediction → ℕ
 level_error_of c = total_weight * (approximate_error * greatest_amount c)
 
--- a bound on the change of a slope, for each millionth of an amplitude, because approximate slopes
+-- a bound on the error of a slope, for each millionth of an amplitude, because approximate slopes
 -- round speeds down to multiples of 2^9 units of 1/600,000,000 degree a minute: 2^9 units times the
 -- greatest sine, 10^9 billionths
 abbrev pub speed_error : ℕ
 speed_error = 2 ^ 9 * 10 ^ 9
 
 -- a bound on the difference between the approximate slope and the slope at each minute of the
--- prediction c, in billionths of a millionth of the station's unit a minute, multiplied by
--- 34,377,467,708 (the units of angle in a radian) and by 4,147,200,000 (the total weight of a blend)
+-- prediction c: the error of an approximate sine times a year's greatest sum of amplitude times
+-- speed, plus `speed_error` (because speeds are rounded) times the greatest sum of a year's
+-- amplitudes; in the station's unit a minute, multiplied by 10^15 * 34,377,467,708 * 4,147,200,000
+-- (34,377,467,708 units of angle are a radian, and 4,147,200,000 is the total weight of a blend)
 unfoldable pub slope_error_of : Prediction → ℕ
 slope_error_of c = total_weight * (approximate_error * greatest_steepness c + speed_error * greatest_amount c)

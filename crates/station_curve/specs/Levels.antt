@@ -20,10 +20,10 @@ blended value (Plain year) = pos total_weight *ℤ value year
 blended value (Blend year x) =
     ((pos total_weight -ℤ weight_of x) *ℤ value (year - 1)) +ℤ (weight_of x *ℤ value year)
 
--- what the change of the weights in a blend adds to the slope, in billionths of a millionth of the
--- station's unit a minute, multiplied by 34,377,467,708 (the units of angle in a radian) and by
--- 4,147,200,000 (the total weight of a blend); 0 outside the blends at new years. `level` gives each
--- year's level, by the year's index, in billionths of a millionth of the station's unit
+-- what the change of the weights in a blend adds to the slope, in the station's unit a minute,
+-- multiplied by 10^15 * 34,377,467,708 * 4,147,200,000 (34,377,467,708 units of angle are a radian,
+-- and 4,147,200,000 is the total weight of a blend); 0 outside the blends at new years. `level`
+-- gives each year's level, by the year's index, in billionths of a millionth of the station's unit
 abbrev pub drift : (ℕ → ℤ) → Place → ℤ
 drift level (Plain year) = pos 0
 drift level (Blend year x) =

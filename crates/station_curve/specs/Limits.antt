@@ -16,8 +16,8 @@ most_steepness = 10 ^ 17
 
 -- the four sums of a year are within the limits of a station with a curve: `amount`, the sum of the
 -- amplitudes in millionths, is at most 10^9, and `steep`, the sum of amplitude times speed, at most
--- 10^17; it follows that `near` and `far`, the bounds on the change of the level and the slope in a
--- minute, are limited too
+-- 10^17; it follows that the bounds on the change in a minute of the level (`near`) and of the
+-- slope (`far`) are limited too: a sine changes by at most 104,724,001 billionths a minute
 pub record AreWithinLimits (s : Sums) : Type 0 where
   pub amount : unsigned_abs s.amount ≤ most_amount
   pub steep : unsigned_abs s.steep ≤ most_steepness

@@ -17,8 +17,8 @@ use Rattle.station_curve.specs.Levels.{blended, drift}
 abbrev pub constituents_of : Book → List ℕ
 constituents_of b = range_with_len 0 (length b.constituents)
 
--- the speed of the constituent with index k (0 for the book's first), in units of 1/600,000,000 degree
--- a minute
+-- the speed of the constituent with index k (0 for the book's first), in units of 1/600,000,000
+-- degree a minute, which are the file's ten-millionths of a degree an hour
 abbrev pub speed_of : Book → ℕ → ℤ
 speed_of b k = slice_index_or (map (λ c. c.speed) b.constituents) k (pos 0)
 
@@ -43,29 +43,34 @@ angle_of b s year m k =
 abbrev pub phase_of : Book → Station → ℕ → ℤ → ℕ → ℕ
 phase_of b s year m k = unsigned_abs (int_rem_euclid (angle_of b s year m k) (pos circle))
 
--- the level at minute m by the constants of the year with index `year` (0 for the book's first), in
--- billionths of a millionth of the station's unit
+-- the level at minute m by the constants of the year with index `year` (0 for the book's first):
+-- the mean level plus each constituent's amplitude times the cosine of its phase; in billionths of
+-- a millionth of the station's unit
 unfoldable pub predicted_year_level : Book → Station → ℤ → ℕ → ℤ
 predicted_year_level b s m year =
     (pos (10 ^ 9) *ℤ s.datum)
     +ℤ fold (λ sum k. sum +ℤ (amplitude_of b s year k *ℤ icos_of (phase_of b s year m k))) (pos 0) (constituents_of b)
 
--- the slope at minute m by the constants of the year with index `year` (0 for the book's first), in
--- billionths of a millionth of the station's unit a minute, multiplied by 34,377,467,708 (the units of
--- angle in a radian)
+-- the slope at minute m by the constants of the year with index `year` (0 for the book's first):
+-- the negated sum of each constituent's amplitude times its speed times the sine of its phase; in
+-- the station's unit a minute, multiplied by 10^15 * 34,377,467,708 (the units of angle in a
+-- radian)
 unfoldable pub predicted_year_slope : Book → Station → ℤ → ℕ → ℤ
 predicted_year_slope b s m year =
     neg_ℤ (fold (λ sum k. sum +ℤ ((amplitude_of b s year k *ℤ speed_of b k) *ℤ isin_of (phase_of b s year m k))) (pos 0)
     (constituents_of b))
 
--- the level at minute m, in billionths of a millionth of the station's unit, multiplied by
--- 4,147,200,000 (the total weight of a blend)
+-- the level at minute m: by the constants of its year or, in a blend (less than an hour from a new
+-- year between two of the book's years), the weighted mean of both years' levels; in billionths of
+-- a millionth of the station's unit, multiplied by 4,147,200,000 (the total weight of a blend)
 unfoldable pub predicted_level : Book → Station → ℤ → ℤ
 predicted_level b s m = blended (predicted_year_level b s m) (place_of b.first_year b.years m)
 
--- the slope at minute m, the change of the level per minute, in billionths of a millionth of the
--- station's unit a minute, multiplied by 34,377,467,708 (the units of angle in a radian) and by
--- 4,147,200,000 (the total weight of a blend)
+-- the slope at minute m, the change of the level per minute: by the constants of its year or, in a
+-- blend (less than an hour from a new year between two of the book's years), the weighted mean of
+-- both years' slopes plus what the change of the weights adds; in the station's unit a minute,
+-- multiplied by 10^15 * 34,377,467,708 * 4,147,200,000 (34,377,467,708 units of angle are a radian,
+-- and 4,147,200,000 is the total weight of a blend)
 unfoldable pub predicted_slope : Book → Station → ℤ → ℤ
 predicted_slope b s m =
     blended (predicted_year_slope b s m) (place_of b.first_year b.years m)

@@ -16,14 +16,16 @@ pub record WaveSpec : Type 0 where
 abbrev pub phase_at : WaveSpec → ℕ → ℕ
 phase_at h t = (h.phase + h.speed * t) % circle
 
--- the height of the wave h (what it adds to the level) at the time t, in minutes counted from one hour
--- before the year's start; in billionths of a millionth of the station's unit
+-- the height of the wave h (what it adds to the level) at the time t, in minutes counted from one
+-- hour before the year's start: its amplitude times the cosine of its phase; in billionths of a
+-- millionth of the station's unit
 abbrev pub height_at : ℕ → WaveSpec → ℤ
 height_at t h = h.amplitude *ℤ icos_of (phase_at h t)
 
--- the fall of the wave h (what it adds to the slope, negated) at the time t, in minutes counted from
--- one hour before the year's start; in billionths of a millionth of the station's unit a minute,
--- multiplied by 34,377,467,708 (the units of angle in a radian)
+-- the fall of the wave h (what it adds to the slope, negated) at the time t, in minutes counted
+-- from one hour before the year's start: its amplitude times its speed times the sine of its phase;
+-- in the station's unit a minute, multiplied by 10^15 * 34,377,467,708 (the units of angle in a
+-- radian)
 abbrev pub fall_at : ℕ → WaveSpec → ℤ
 fall_at t h = (h.amplitude *ℤ pos h.speed) *ℤ isin_of (phase_at h t)
 
@@ -32,9 +34,9 @@ fall_at t h = (h.amplitude *ℤ pos h.speed) *ℤ isin_of (phase_at h t)
 abbrev pub heights_of : ℕ → List WaveSpec → ℤ
 heights_of t hs = fold (λ sum h. sum +ℤ height_at t h) (pos 0) hs
 
--- the sum of the falls of the waves hs (what each adds to the slope, negated) at the time t, in minutes
--- counted from one hour before the year's start; in billionths of a millionth of the station's unit a
--- minute, multiplied by 34,377,467,708 (the units of angle in a radian)
+-- the sum of the falls of the waves hs (what each adds to the slope, negated) at the time t, in
+-- minutes counted from one hour before the year's start; in the station's unit a minute, multiplied
+-- by 10^15 * 34,377,467,708 (the units of angle in a radian)
 abbrev pub falls_of : ℕ → List WaveSpec → ℤ
 falls_of t hs = fold (λ sum h. sum +ℤ fall_at t h) (pos 0) hs
 

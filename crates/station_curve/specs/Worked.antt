@@ -32,8 +32,8 @@ small_station amplitude units = record {
   epoch = pos 0 ∷ [];
 }
 
--- a wave with an amplitude of one unit that turns by half a degree a minute, and has phase 0 one hour
--- before the year begins
+-- a wave with an amplitude of one unit (1,000,000 millionths) that turns by half a degree a minute,
+-- and has phase 0 one hour before the year begins
 abbrev pub small_wave : WaveSpec
 small_wave = record { amplitude = pos 1000000; speed = 300000000; phase = 0 }
 

@@ -13,10 +13,10 @@ use year_blend::{TOTAL_WEIGHT, weight_slope};
 /// of 2^9 units.
 const SPEED_ERROR: i128 = 512_000_000_000;
 
-/// Returns `weight * value`, what one year adds to a level or slope that is multiplied by 4,147,200,000
-/// (the total weight of a blend). `weight` is the year's weight, from 0 to 4,147,200,000. `value` is
-/// the level or slope by the year's constants, at most 10^26 in absolute value, so the product can't
-/// overflow.
+/// Returns `weight * value`, what one year adds to the level or slope in a blend, the mixture of
+/// two years' values less than an hour from a new year. `weight` is the year's weight, from 0 to
+/// 4,147,200,000 (the total weight of both years). `value` is the level or slope by the year's
+/// constants, in any unit, at most 10^26 in absolute value, so the product can't overflow.
 pub fn weighted(weight: i64, value: i128) -> i128
     requires value { unsigned_abs value ≤ 10 ^ 26 }
     requires least { pos 0 ≤ℤ weight }
@@ -27,9 +27,10 @@ pub fn weighted(weight: i64, value: i128) -> i128
     i128::from(weight) * value
 }
 
-/// Returns the mean of two years' levels or slopes in a blend, weighted and multiplied by 4,147,200,000
-/// (the total weight): `later * weight + earlier * (4,147,200,000 - weight)`. `earlier` and `later` are
-/// the values by each year's constants, at most 10^26 in absolute value. `weight` is the later year's
+/// Returns the weighted mean of two years' levels or slopes in a blend (less than an hour from a
+/// new year), multiplied by 4,147,200,000, the sum of both weights: `later * weight +
+/// earlier * (4,147,200,000 - weight)`. `earlier` and `later` are the values by each year's
+/// constants, in the same unit, at most 10^26 in absolute value. `weight` is the later year's
 /// weight, from 0 to 4,147,200,000.
 pub fn mixed(earlier: i128, later: i128, weight: i64) -> i128
     requires earlier { unsigned_abs earlier ≤ 10 ^ 26 }
@@ -42,12 +43,12 @@ pub fn mixed(earlier: i128, later: i128, weight: i64) -> i128
     weighted(TOTAL_WEIGHT - weight, earlier) + weighted(weight, later)
 }
 
-/// Returns what the change of the weights adds to the slope in a blend, `x` minutes after the new year
-/// (before it, if `x` is negative); `x` is from -60 to 60. `change` is the later year's level minus the
-/// earlier year's level, in billionths of a millionth of the station's unit, at most 2 * 10^18 in
-/// absolute value. The result is in billionths of a millionth of the station's unit a minute,
-/// multiplied by 34,377,467,708 (the units of angle in a radian) and by 4,147,200,000 (the total weight
-/// of a blend).
+/// Returns what the change of the weights adds to the slope in a blend, where the level is the
+/// weighted mean of two years' levels, `x` minutes after a new year; `x` is from -60 to 60,
+/// negative before it. `change` is the later year's level minus the earlier year's, in billionths
+/// of a millionth of the station's unit, at most 2 * 10^18 in absolute value. The result is in the
+/// station's unit a minute, multiplied by 10^15 * 34,377,467,708 * 4,147,200,000 (34,377,467,708
+/// units of angle are a radian, and 4,147,200,000 is the total weight of a blend).
 pub fn drift(change: i64, x: i64) -> i128
     requires change { unsigned_abs change ≤ 2 * 10 ^ 18 }
     requires in_range { IsWithinHourOfNewYear x }
@@ -57,8 +58,8 @@ pub fn drift(change: i64, x: i64) -> i128
     i128::from(weight_rise(x)) * i128::from(change)
 }
 
-/// Returns the change per minute of the weight of the later year in a blend, `x` minutes from the new
-/// year, multiplied by 34,377,467,708 (the units of angle in a radian).
+/// Returns the change per minute of the later year's weight in a blend, `x` minutes after the new
+/// year (from -60 to 60), multiplied by 34,377,467,708 (the units of angle in a radian).
 fn weight_rise(x: i64) -> i64
     requires { IsWithinHourOfNewYear x }
     ensures value { result ≡ weight_slope_of x *ℤ pos radian }
@@ -67,8 +68,9 @@ fn weight_rise(x: i64) -> i64
     weight_slope(x) * RADIAN
 }
 
-/// Returns `value` multiplied by 4,147,200,000 (the total weight of a blend). `value` is a level or
-/// slope by the constants of one year, at most 2 * 10^26 in absolute value.
+/// Returns `value` multiplied by 4,147,200,000, the total weight of a blend: outside the blends at
+/// new years one year has the full weight, and all levels and slopes have the same unit. `value` is
+/// a level or slope by the constants of this year, at most 2 * 10^26 in absolute value.
 pub fn by_full_weight(value: i128) -> i128
     requires { unsigned_abs value ≤ 2 * 10 ^ 26 }
     ensures { result ≡ pos total_weight *ℤ value }
@@ -76,9 +78,11 @@ pub fn by_full_weight(value: i128) -> i128
     i128::from(TOTAL_WEIGHT) * value
 }
 
-/// Returns a bound on the error of a sum of approximate sines, each multiplied by a factor. `size` is
-/// the sum of the absolute values of the factors, at most 10^17. The bound is in billionths (the unit
-/// of a sine), multiplied by 4,147,200,000 (the total weight of a blend).
+/// Returns a bound on the error of a sum of sines, each multiplied by a factor, if approximate
+/// sines, which are off by at most 400,000 billionths, take the sines' place. `size` is the sum of
+/// the absolute values of the factors, at most 10^17: amplitudes for a level, amplitudes times
+/// speeds for a slope. The bound is in billionths of the unit of `size`, multiplied by
+/// 4,147,200,000 (the total weight of a blend).
 pub fn error_of(size: i128) -> i128
     requires { unsigned_abs size ≤ 10 ^ 17 }
     ensures { result ≡ pos (total_weight * approximate_error) *ℤ size }
@@ -86,11 +90,12 @@ pub fn error_of(size: i128) -> i128
     i128::from(TOTAL_WEIGHT) * i128::from(APPROXIMATE_ERROR) * size
 }
 
-/// Returns a bound on the change of a slope if the speed of each wave is rounded down to a multiple of
-/// 2^9 units of 1/600,000,000 degree a minute. `amount` is the sum of the absolute values of the waves'
-/// amplitudes, in millionths of the station's unit, at most 10^9. The result is in billionths of a
-/// millionth of the station's unit a minute, multiplied by 34,377,467,708 (the units of angle in a
-/// radian) and by 4,147,200,000 (the total weight of a blend).
+/// Returns a bound on the error of an approximate slope because of its rounded speeds: each wave's
+/// speed is rounded down to a multiple of 2^9 units of 1/600,000,000 degree a minute. `amount` is
+/// the sum of the absolute values of the waves' amplitudes, in millionths of the station's unit, at
+/// most 10^9. The result is in the station's unit a minute, multiplied by
+/// 10^15 * 34,377,467,708 * 4,147,200,000 (34,377,467,708 units of angle are a radian, and
+/// 4,147,200,000 is the total weight of a blend).
 pub fn speed_error_of(amount: i128) -> i128
     requires { unsigned_abs amount ≤ 10 ^ 9 }
     ensures { result ≡ pos (total_weight * speed_error) *ℤ amount }

@@ -11,11 +11,13 @@ ghost use Rattle.station_curve.specs.Limits.{AreWithinLimits};
 ghost use Rattle.station_curve.specs.Curves.{waves_of, IsWithinLimits};
 ghost use Rattle.station_curve.specs.Schureman.{predicted_year_level, predicted_year_slope};
 
-/// Proves bounds by the constants of the year with index `year` (0 for the book's first year): from
-/// minute `m` to the next minute the level changes by at most `near_of` the year's waves, and the slope
-/// by at most `far_of` the year's waves. `m` is any minute from one hour before the year's start on.
-/// Levels are in billionths of a millionth of the station's unit, slopes in billionths of a millionth
-/// of the station's unit a minute, multiplied by 34,377,467,708 (the units of angle in a radian).
+/// Proves bounds by the constants of the year with index `year` (0 for the book's first year), at
+/// each minute `m` from one hour before the year's start on. From `m` to the next minute the level
+/// changes by at most `near_of` the year's waves: the sum of each amplitude times a bound on the
+/// change of its wave's sine in a minute. The slope changes by at most `far_of` the waves, the same
+/// sum with amplitudes times speeds. Levels are in billionths of a millionth of the station's unit,
+/// slopes in the station's unit a minute, multiplied by 10^15 * 34,377,467,708 (the units of angle
+/// in a radian).
 pub fn year_changes()
     ensures level { (b : Book) (s : Station) (m : ℤ) (year : ℕ) → IsBook b → pos 0 ≤ℤ ((m -ℤ start_of b.first_year year) +ℤ pos 60)
         → unsigned_abs (predicted_year_level b s (m +ℤ pos 1) year -ℤ predicted_year_level b s m year) ≤ near_of (waves_of b s year) }
@@ -23,14 +25,15 @@ pub fn year_changes()
         → unsigned_abs (predicted_year_slope b s (m +ℤ pos 1) year -ℤ predicted_year_slope b s m year) ≤ far_of (waves_of b s year) }
 {}
 
-/// Proves bounds by the constants of the year with index `year` (0 for the book's first year). The
-/// absolute value of the level is at most 10^9 times the sum of the absolute value of the mean level
-/// and of `amount_of` the year's waves; the absolute value of the slope is at most 10^9 times
-/// `steepness_of` the year's waves. The levels by the constants of two years differ by at most 10^9
-/// times the sum of both years' `amount_of`, because the mean level cancels. If the station is within
-/// the limits of a curve, each year's four sums are too. Levels are in billionths of a millionth of the
-/// station's unit, slopes in billionths of a millionth of the station's unit a minute, multiplied by
-/// 34,377,467,708 (the units of angle in a radian).
+/// Proves bounds by the constants of the year with index `year` (0 for the book's first year).
+/// `amount_of` is the sum of the absolute values of the year's amplitudes, and `steepness_of` the
+/// sum of amplitude times speed. A level is at most 10^9 times the sum of `amount_of` and the mean
+/// level in absolute value, and a slope 10^9 times `steepness_of`; the levels of two years differ
+/// by at most 10^9 times the sum of both `amount_of`, because the mean level cancels. If the
+/// station is within the limits of a curve, each year's four sums are too: these two, and the
+/// bounds on the change of the level and the slope in a minute. Levels are in billionths of a
+/// millionth of the station's unit, slopes in the station's unit a minute, multiplied by
+/// 10^15 * 34,377,467,708 (the units of angle in a radian).
 pub fn year_sizes()
     ensures level { (b : Book) (s : Station) (m : ℤ) (year : ℕ) →
         unsigned_abs (predicted_year_level b s m year) ≤ 10 ^ 9 * (unsigned_abs s.datum + amount_of (waves_of b s year)) }

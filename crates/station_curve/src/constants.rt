@@ -39,17 +39,19 @@ use fixed_sine::reduce;
 use harmonics_book::{Station, ValidBook};
 use std::alloc::{AllocError, Global};
 
-/// The limit on the sum of the absolute values of a station's amplitudes in one year, in millionths of
-/// the station's unit.
+/// The limit on the sum of the absolute values of a station's amplitudes in one year, in millionths
+/// of the station's unit; a station that exceeds it in a year of the book has no curve.
 pub const MOST_AMOUNT: u64 = 1_000_000_000;
 
 /// The limit on the sum, over a station's constituents in one year, of the absolute value of the
-/// amplitude multiplied by the speed. Amplitudes are in millionths of the station's unit, speeds in
-/// units of 1/600,000,000 degree a minute.
+/// amplitude multiplied by the speed; a station that exceeds it in a year of the book has no curve.
+/// Amplitudes are in millionths of the station's unit, speeds in units of 1/600,000,000 degree a
+/// minute.
 pub const MOST_STEEPNESS: u128 = 100_000_000_000_000_000;
 
-/// Returns the indices (0 for the first) of the book's constituents that have an amplitude other than 0
-/// at `station`, in ascending order.
+/// Returns the indices (0 for the first) of the book's constituents that have an amplitude other
+/// than 0 at `station`, in ascending order. There are at most 500, because a book has at most 500
+/// constituents.
 ///
 /// # Errors
 /// [`AllocError`] if memory runs out.
@@ -71,9 +73,9 @@ pub fn present_places(
     Ok(places)
 }
 
-/// Checks that the constants of `station` in the year with index `year` (0 for the book's first year)
-/// don't exceed [`MOST_AMOUNT`] or [`MOST_STEEPNESS`]. `present` holds the indices of the constituents
-/// with an amplitude other than 0.
+/// Checks that the constants of `station` in the year with index `year` (0 for the book's first
+/// year) don't exceed [`MOST_AMOUNT`] or [`MOST_STEEPNESS`]. `present` holds the indices of the
+/// constituents with an amplitude other than 0, at most 500.
 ///
 /// # Errors
 /// [`CurveFault::TooLarge`] if the absolute values of the amplitudes sum to more than 1,000,000,000
@@ -145,9 +147,11 @@ fn sums(book: &ValidBook<'_>, station: &Station, present: &[usize], year: u32) -
     (amount, steepness)
 }
 
-/// Returns the waves of `station` in the year with index `year` (0 for the book's first year) with an
-/// amplitude other than 0, or no waves if `is_asked` is false: then the curve's minutes don't need this
-/// year. `present` holds the indices of the constituents with an amplitude other than 0.
+/// Returns the waves of `station` with an amplitude other than 0 in the year with index `year` (0
+/// for the book's first year), which is within the limits of a curve. Returns no waves if
+/// `is_asked` is false: then the year is more than an hour from the curve's minutes, so they don't
+/// use its constants. `present` holds the indices of the constituents with an amplitude other than
+/// 0.
 ///
 /// # Errors
 /// [`AllocError`] if memory runs out.
@@ -238,7 +242,7 @@ fn place_in_table(book: &ValidBook<'_>, year: u32, k: usize) -> usize
 }
 
 /// Returns the speed of the constituent with index `k` (0 for the book's first), in units of
-/// 1/600,000,000 degree a minute.
+/// 1/600,000,000 degree a minute, from 0 to 3,600,000,000 (six degrees a minute).
 pub fn speed(book: &ValidBook<'_>, k: usize) -> u64
     requires place { k < length book.now.constituents }
     ensures value { pos result ≡ speed_of book.now k }

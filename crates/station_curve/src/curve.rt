@@ -82,10 +82,11 @@ impl StationCurve {
     /// minutes of the book's years and the first minute after them.
     ///
     /// # Errors
-    /// [`CurveFault::Hydraulic`] if the station is a hydraulic current; otherwise
-    /// [`CurveFault::TooLarge`] or [`CurveFault::TooSteep`] for the first year of the book with
-    /// constants beyond a limit (`TooLarge` if the year exceeds both limits); [`CurveFault::NoMemory`]
-    /// if memory runs out.
+    /// [`CurveFault::Hydraulic`] if the station is a hydraulic current; otherwise, for the first
+    /// year of the book that exceeds a limit, [`CurveFault::TooLarge`] if the absolute values of
+    /// the amplitudes sum to more than 10^9 millionths of the station's unit, or else
+    /// [`CurveFault::TooSteep`] if, each multiplied by the speed in units of 1/600,000,000 degree a
+    /// minute, they sum to more than 10^17. [`CurveFault::NoMemory`] if memory runs out.
     ///
     /// # Examples
     /// ```
@@ -116,10 +117,11 @@ impl StationCurve {
     /// faster than the curve of all minutes.
     ///
     /// # Errors
-    /// [`CurveFault::Hydraulic`] if the station is a hydraulic current; otherwise
-    /// [`CurveFault::TooLarge`] or [`CurveFault::TooSteep`] for the first year of the book with
-    /// constants beyond a limit (`TooLarge` if the year exceeds both limits); [`CurveFault::NoMemory`]
-    /// if memory runs out.
+    /// [`CurveFault::Hydraulic`] if the station is a hydraulic current; otherwise, for the first
+    /// year of the book that exceeds a limit, [`CurveFault::TooLarge`] if the absolute values of
+    /// the amplitudes sum to more than 10^9 millionths of the station's unit, or else
+    /// [`CurveFault::TooSteep`] if, each multiplied by the speed in units of 1/600,000,000 degree a
+    /// minute, they sum to more than 10^17. [`CurveFault::NoMemory`] if memory runs out.
     pub fn over(
         alloc: Global,
         book: &Book,
@@ -222,9 +224,11 @@ impl StationCurve {
         self.years.len() as u32
     }
 
-    /// Returns the four sums (`amount`, `steep`, `near`, `far`) over the station's waves in the year
-    /// with index `year` (0 for the book's first year). All four are 0 if the year is more than an hour
-    /// from the curve's minutes. The fields of [`Sums`] say the units.
+    /// Returns four sums over the station's waves in the year with index `year` (0 for the book's
+    /// first year): `amount` of the absolute values of the amplitudes, `steep` of amplitude times
+    /// speed, and `near` and `far`, bounds on the change of the level and of the slope in a minute
+    /// by the year's constants. All four are 0 if the year is more than an hour from the curve's
+    /// minutes. The fields of [`Sums`] say the units.
     pub fn sums(&self, year: u32) -> Sums
         requires { year < self.now.book.years }
         ensures value { result ≡ sums_for self.now year }
@@ -233,18 +237,21 @@ impl StationCurve {
         self.years[year as usize].sums
     }
 
-    /// Does nothing at run time. Its contract states that the station's constants are within the limits
-    /// of a curve in each year (the sums that [`CurveFault::TooLarge`] and [`CurveFault::TooSteep`]
-    /// name), and that the curve's minutes are in the book's years or the first minute after them.
+    /// Does nothing at run time. Its contract states that in each year of the book the absolute
+    /// values of the station's amplitudes sum to at most 10^9 millionths of its unit and, each
+    /// multiplied by the speed in units of 1/600,000,000 degree a minute, to at most 10^17; and
+    /// that the curve's minutes are in the book's years or the first minute after them.
     pub fn limits_hold(&self)
         ensures { IsPrediction self.now }
     {
         let _first_year = self.first_year;
     }
 
-    /// Returns the level at minute `m`, counted from 1970-01-01T00:00Z, from `first()` to `last()`. The
-    /// level is in billionths of a millionth of the station's unit, multiplied by [`TOTAL_WEIGHT`]
-    /// (4,147,200,000).
+    /// Returns the level at minute `m`, counted from 1970-01-01T00:00Z, from `first()` to `last()`.
+    /// Less than an hour from a new year between two of the book's years, it is the weighted mean
+    /// of both years' levels (a blend). It is in billionths of a millionth of the station's unit,
+    /// multiplied by [`TOTAL_WEIGHT`] (4,147,200,000, the sum of the weights), and at most 11,000
+    /// units in absolute value.
     pub fn level(&self, m: i64) -> i128
         requires { IsPredicted self.now m }
         ensures value { result ≡ predicted_level self.now.book self.now.station m }
@@ -260,10 +267,11 @@ impl StationCurve {
         }
     }
 
-    /// Returns the slope at minute `m`, counted from 1970-01-01T00:00Z, from `first()` to `last()`. The
-    /// slope is the change of the level in billionths of a millionth of the station's unit a minute,
-    /// multiplied by [`TOTAL_WEIGHT`] (4,147,200,000) and by 34,377,467,708 (the units of angle in a
-    /// radian).
+    /// Returns the slope, the change of the level per minute, at minute `m`, counted from
+    /// 1970-01-01T00:00Z, from `first()` to `last()`. It is in the station's unit a minute,
+    /// multiplied by 10^15 * 34,377,467,708 * 4,147,200,000 (34,377,467,708 units of angle are a
+    /// radian, and 4,147,200,000 is [`TOTAL_WEIGHT`], the total weight of a blend), and below 10^37
+    /// in absolute value.
     pub fn slope(&self, m: i64) -> i128
         requires { IsPredicted self.now m }
         ensures value { result ≡ predicted_slope self.now.book self.now.station m }
@@ -282,10 +290,11 @@ impl StationCurve {
         }
     }
 
-    /// Returns an approximation of the level at minute `m`, faster than [`level`](StationCurve::level).
-    /// It differs from the level by at most [`level_error`](StationCurve::level_error), and is exact
-    /// less than an hour from a new year between two of the book's years. It is in billionths of a
-    /// millionth of the station's unit, multiplied by [`TOTAL_WEIGHT`] (4,147,200,000).
+    /// Returns an approximation of the level at minute `m`, faster than
+    /// [`level`](StationCurve::level). It differs from the level by at most
+    /// [`level_error`](StationCurve::level_error), and is exact less than an hour from a new year
+    /// between two of the book's years. It is in billionths of a millionth of the station's unit,
+    /// multiplied by [`TOTAL_WEIGHT`] (4,147,200,000), and at most 12,000 units in absolute value.
     #[inline(always)]
     pub fn approximate_level(&self, m: i64) -> i128
         requires { IsPredicted self.now m }
@@ -299,11 +308,13 @@ impl StationCurve {
         }
     }
 
-    /// Returns an approximation of the slope at minute `m`, faster than [`slope`](StationCurve::slope).
-    /// It differs from the slope by at most [`slope_error`](StationCurve::slope_error), and is exact
-    /// less than an hour from a new year between two of the book's years. It is in billionths of a
-    /// millionth of the station's unit a minute, multiplied by [`TOTAL_WEIGHT`] (4,147,200,000) and by
-    /// 34,377,467,708 (the units of angle in a radian).
+    /// Returns an approximation of the slope at minute `m`, faster than
+    /// [`slope`](StationCurve::slope). It differs from the slope by at most
+    /// [`slope_error`](StationCurve::slope_error), and is exact less than an hour from a new year
+    /// between two of the book's years. It is in the station's unit a minute, multiplied by
+    /// 10^15 * 34,377,467,708 * 4,147,200,000 (34,377,467,708 units of angle are a radian, and
+    /// 4,147,200,000 is [`TOTAL_WEIGHT`], the total weight of a blend), and below 2 * 10^37 in
+    /// absolute value.
     #[inline(always)]
     pub fn approximate_slope(&self, m: i64) -> i128
         requires { IsPredicted self.now m }
@@ -317,9 +328,9 @@ impl StationCurve {
         }
     }
 
-    /// Returns a bound on the difference between the curve's approximate level and its level at each
-    /// minute, in billionths of a millionth of the station's unit, multiplied by [`TOTAL_WEIGHT`]
-    /// (4,147,200,000).
+    /// Returns a bound on the difference between the curve's approximate level and its level at
+    /// each minute, in billionths of a millionth of the station's unit, multiplied by
+    /// [`TOTAL_WEIGHT`] (4,147,200,000). It is at most 2 * 10^24, less than half a unit.
     pub fn level_error(&self) -> i128
         ensures value { result ≡ pos (level_error_of self.now) }
         ensures size { unsigned_abs result ≤ 2 * 10 ^ 24 }
@@ -327,9 +338,10 @@ impl StationCurve {
         error_of(self.greatest.amount)
     }
 
-    /// Returns a bound on the difference between the curve's approximate slope and its slope at each
-    /// minute, in billionths of a millionth of the station's unit a minute, multiplied by
-    /// [`TOTAL_WEIGHT`] (4,147,200,000) and by 34,377,467,708 (the units of angle in a radian).
+    /// Returns a bound on the difference between the curve's approximate slope and its slope at
+    /// each minute, in the station's unit a minute, multiplied by
+    /// 10^15 * 34,377,467,708 * 4,147,200,000 (34,377,467,708 units of angle are a radian, and
+    /// 4,147,200,000 is [`TOTAL_WEIGHT`], the total weight of a blend). It is at most 2 * 10^32.
     pub fn slope_error(&self) -> i128
         ensures value { result ≡ pos (slope_error_of self.now) }
         ensures size { unsigned_abs result ≤ 2 * 10 ^ 32 }
@@ -337,8 +349,9 @@ impl StationCurve {
         error_of(self.greatest.steepness) + speed_error_of(self.greatest.amount)
     }
 
-    /// Returns the level at minute `m`, counted from 1970-01-01T00:00Z, in whole millionths of the
-    /// station's unit; a half is rounded away from 0.
+    /// Returns the level at minute `m`, counted from 1970-01-01T00:00Z, from `first()` to `last()`,
+    /// in whole millionths of the station's unit; a half is rounded away from 0. The result is at
+    /// most 11,000,000,000 in absolute value.
     pub fn millionths(&self, m: i64) -> i64
         requires { IsPredicted self.now m }
         ensures value { result ≡ predicted_millionths self.now.book self.now.station m }

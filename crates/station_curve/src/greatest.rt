@@ -6,8 +6,8 @@ ghost use Rattle.station_curve.specs.Errors.{greatest_of};
 
 use crate::years::Year;
 
-/// The greatest amplitude sum and the greatest steepness sum of a station in any year; each is 0 if
-/// there is no year, and they can be of different years.
+/// The greatest sum of a station's amplitudes in a year, and the greatest sum of amplitude times
+/// speed, which can be in another year. Each is 0 if there is no year.
 #[derive(Clone, Copy)]
 pub struct Greatest {
     /// The greatest sum over a year's waves of the absolute value of the amplitude, in millionths of
@@ -18,8 +18,9 @@ pub struct Greatest {
     pub steepness: i128,
 }
 
-/// Returns the greatest `amount` and the greatest `steep` of the sums of any of `years`; each is 0 if
-/// there is no year.
+/// Returns the greatest sum of amplitudes (`amount`) and the greatest sum of amplitude times speed
+/// (`steep`) of any of `years`; each is 0 if there is no year. In each clause, `value k` is the sum
+/// of the year with index `k`.
 pub fn greatest_of_years(years: &[Year]) -> Greatest
     ensures amount { (value : ℕ → ℕ)
         → ((k : ℕ) (d : Year) → k < length years.now → (slice_index_or years.now k d).sums.amount ≡ pos (value k))

@@ -12,13 +12,13 @@ ghost use Rattle.station_curve.specs.Errors.{level_error_of, slope_error_of};
 ghost use Rattle.station_curve.specs.Sums.{sums_of};
 ghost use Rattle.station_curve.specs.Worked.{small_book, small_station, small_wave, pier_book, shifted_book, pier, harbour_book, harbour};
 
-/// Proves heights (what a wave adds to the level) and falls (what it adds to the slope, negated) of a
-/// wave with an amplitude of one unit that turns by half a degree a minute from phase 0 on. Its height
-/// is 1 unit at 0 minutes, a half at 120 minutes (60 degrees) and 0 at 180 (90 degrees); two such waves
-/// have -2 units at 360 (180 degrees). Its fall is 0 at 360 minutes and greatest at 180. Heights are in
-/// billionths of a millionth of the station's unit, falls in billionths of a millionth of the station's
-/// unit a minute, multiplied by 34,377,467,708 (the units of angle in a radian); `negsuc n` is -(n +
-/// 1).
+/// Proves heights (what a wave adds to the level) and falls (what it adds to the slope, negated) of
+/// a wave with an amplitude of one unit that turns by half a degree a minute from phase 0 on. Its
+/// height is 1 unit at 0 minutes, a half at 120 minutes (60 degrees) and 0 at 180 (90 degrees); two
+/// such waves have -2 units at 360 (180 degrees). Its fall is 0 at 360 minutes and greatest at 180:
+/// half a degree in radians (0.0087 units a minute). Heights are in billionths of a millionth of a
+/// unit, falls in units a minute, multiplied by 10^15 * 34,377,467,708 (the units of angle in a
+/// radian); `negsuc n` is -(n + 1).
 pub fn worked_waves()
     ensures top { heights_of 0 (small_wave ∷ []) ≡ pos (10 ^ 15) }
     ensures sixty_degrees { heights_of 120 (small_wave ∷ []) ≡ pos (5 * 10 ^ 14) }
@@ -49,8 +49,8 @@ pub fn worked_limits()
 
 /// Proves which of the years 1999 (index 0) to 2001 (index 2) a curve needs: those at most an hour from
 /// its minutes. A curve from 01:00 UTC on 1 January 2000 to 23:00 on 31 December 2000 needs all three.
-/// If it begins at 01:01 it doesn't need 1999, which has no waves then; if it ends at 22:59 it doesn't
-/// need 2001.
+/// If it begins at 01:01 it doesn't need 1999, and has no waves for it; if it ends at 22:59 it
+/// doesn't need 2001.
 pub fn worked_reach()
     ensures hour_after { is_touched pier_book (pos 15778140) (pos 16305060) 0 ≡ true }
     ensures between { is_touched pier_book (pos 15778140) (pos 16305060) 1 ≡ true }
@@ -97,12 +97,13 @@ pub fn worked_levels()
 {}
 
 /// Proves slopes that another program computed; times are UTC. The tide of `pier`, highest at noon,
-/// rises at 11:59 on 10 January 2000, and its slope is 0 at 12:00. If it is 60 degrees ahead from 2000
-/// on (`shifted_book`), it still rises at 23:27 on 31 December 1999 and falls at 23:28, both in the
-/// blend at the new year. At the other station, `harbour`, the level falls at 05:00 on 1 January 2000
-/// and at 00:20 on 1 January 2001 (in the blend), and rises at 00:00 on 1 March 2001. Slopes are in
-/// billionths of a millionth of a foot a minute, multiplied by 34,377,467,708 (the units of angle in a
-/// radian) and by 4,147,200,000 (the total weight of a blend); `negsuc n` is -(n + 1).
+/// rises at 11:59 on 10 January 2000, and its slope is 0 at 12:00. If it is 60 degrees ahead from
+/// 2000 on (`shifted_book`), it still rises at 23:27 on 31 December 1999 and falls at 23:28, both
+/// in the blend at the new year. At the other station, `harbour`, the level falls at 05:00 on 1
+/// January 2000 and at 00:20 on 1 January 2001 (in the blend), and rises at 00:00 on 1 March 2001.
+/// Slopes are in feet a minute, multiplied by 10^15 * 34,377,467,708 * 4,147,200,000
+/// (34,377,467,708 units of angle are a radian, and 4,147,200,000 is the total weight of a blend);
+/// `negsuc n` is -(n + 1).
 pub fn worked_slopes()
     ensures before_noon { predicted_slope pier_book pier (pos 15791759) ≡ pos 10857205785600000000000000000000 }
     ensures noon { predicted_slope pier_book pier (pos 15791760) ≡ pos 0 }
@@ -113,9 +114,13 @@ pub fn worked_slopes()
     ensures harbour_2001 { predicted_slope harbour_book harbour (pos 16390080) ≡ pos 802828425453686744053872844800000 }
 {}
 
-/// Proves the four sums (`amount`, `steep`, `near`, `far`) over the waves of a year: for one wave with
-/// an amplitude of one unit and a speed of half a degree a minute, for no wave, and for the two waves
-/// of `harbour` in 2000 (year 0) and in 2001 (year 1). The fields of `Sums` say the units.
+/// Proves the four sums over the waves of a year: `amount` of the amplitudes, in millionths of a
+/// unit; `steep` of amplitude times speed, with speeds in units of 1/600,000,000 degree a minute;
+/// and the bounds on the change in a minute of the level (`near`, in 10^-15 of a unit) and of the
+/// slope (`far`, in 10^-15 of a unit a minute, multiplied by 34,377,467,708, the units of angle in
+/// a radian). The waves are: one with an amplitude of one unit and half a degree a minute, which
+/// changes the level by at most 0.008727001 units a minute; none; and the two of `harbour` in 2000
+/// (year 0) and in 2001 (year 1).
 pub fn worked_sums()
     ensures one_wave { sums_of (small_wave ∷ [])
         ≡ record { amount = pos 1000000; steep = pos (3 * 10 ^ 14); near = pos 8727001000000; far = pos 2618100300000000000000 } }
@@ -126,11 +131,12 @@ pub fn worked_sums()
         ≡ record { amount = pos 1449234; steep = pos 422079284261828; near = pos 12278286689384; far = pos 3576482855350780498128 } }
 {}
 
-/// Proves approximate levels; times are UTC. They are of `pier`, highest at noon with one foot, at
-/// 11:59 and at 12:00 on 10 January 2000; of `shifted_book` at 23:01 on 31 December 1999, in the blend
-/// at a new year, where the approximate level is exact; and of `harbour` at 05:00 on 1 January 2000,
-/// below the exact level, and at 00:00 on 1 March 2001, above it. Levels are in billionths of a
-/// millionth of a foot, multiplied by 4,147,200,000 (the total weight of a blend).
+/// Proves approximate levels; times are UTC, and exact levels are in brackets. On 10 January 2000
+/// the level at `pier` is 0.999948 feet at 11:59 (0.999962) and 1.000014 at 12:00 (1, the highest).
+/// At `harbour` it is 3.003887 feet at 05:00 on 1 January 2000 (3.004334) and 1.303894 at 00:00 on
+/// 1 March 2001 (1.303827). By `shifted_book`, at 23:01 on 31 December 1999, in the blend at a new
+/// year, it is exact. Levels are in billionths of a millionth of a foot, multiplied by
+/// 4,147,200,000 (the total weight of a blend).
 pub fn worked_approximate_levels()
     ensures before_noon { approximate_level_of pier_book pier (pos 15791759) ≡ pos 4146985539993600000000000 }
     ensures noon { approximate_level_of pier_book pier (pos 15791760) ≡ pos 4147257330892800000000000 }
@@ -139,12 +145,13 @@ pub fn worked_approximate_levels()
     ensures harbour_2001 { approximate_level_of harbour_book harbour (pos 16390080) ≡ pos 5407510534932765081600000 }
 {}
 
-/// Proves approximate slopes; times are UTC. They are of `pier`, highest at noon, at 11:59 and at 12:00
-/// on 10 January 2000 (the exact slope at 12:00 is 0); and of `harbour` at 00:20 on 1 January 2001, in
-/// the blend at a new year, where the approximate slope is exact, at 05:00 on 1 January 2000, and at
-/// 00:00 on 1 March 2001. Slopes are in billionths of a millionth of a foot a minute, multiplied by
-/// 34,377,467,708 (the units of angle in a radian) and by 4,147,200,000 (the total weight of a blend);
-/// `negsuc n` is -(n + 1).
+/// Proves approximate slopes; times are UTC, and exact slopes are in brackets, in millionths of a
+/// foot a minute. On 10 January 2000 the slope at `pier` is 76.92 at 11:59 (76.15) and -3.43 at
+/// 12:00, the high water (0). At `harbour` it is -12,945.58 at 05:00 on 1 January 2000 (-12,944.54)
+/// and 5,630.96 at 00:00 on 1 March 2001 (5,631.11); at 00:20 on 1 January 2001, in the blend at a
+/// new year, it is exact. In the clauses, slopes are in feet a minute, multiplied by
+/// 10^15 * 34,377,467,708 * 4,147,200,000 (34,377,467,708 units of angle are a radian, and
+/// 4,147,200,000 is the total weight of a blend); `negsuc n` is -(n + 1).
 pub fn worked_approximate_slopes()
     ensures before_noon { approximate_slope_of pier_book pier (pos 15791759) ≡ pos 10966753424415758745600000000000 }
     ensures noon { approximate_slope_of pier_book pier (pos 15791760) ≡ negsuc 489223201089178828799999999999 }
@@ -154,12 +161,12 @@ pub fn worked_approximate_slopes()
     ensures harbour_2001 { approximate_slope_of harbour_book harbour (pos 16390080) ≡ pos 802807544580466355289980928000000 }
 {}
 
-/// Proves bounds on the errors of approximate levels and slopes at all minutes: for `pier`, with one
-/// wave of one foot, and for `harbour`, with two waves, by the amplitudes of 2000, which are larger
-/// than those in 2001. Level errors are in billionths of a millionth of a foot, multiplied by
-/// 4,147,200,000 (the total weight of a blend); slope errors are in billionths of a millionth of a foot
-/// a minute, multiplied by 34,377,467,708 (the units of angle in a radian) and by 4,147,200,000 (the
-/// total weight of a blend).
+/// Proves bounds on the errors of approximate levels and slopes at all minutes: 0.0004 feet and
+/// 0.0000036 feet a minute for `pier`, with one wave of one foot; 0.00065 feet and 0.0000056 feet a
+/// minute for `harbour`, with two waves, by the amplitudes of 2000, which are larger than in 2001.
+/// In the clauses, level errors are in feet times 10^15 * 4,147,200,000 (the total weight of a
+/// blend), and slope errors are in feet a minute, multiplied by
+/// 10^15 * 34,377,467,708 * 4,147,200,000 (34,377,467,708 units of angle are a radian).
 pub fn worked_errors()
     ensures pier_level { level_error_of (prediction_of pier_book pier) ≡ 1658880000000000000000 }
     ensures pier_slope { slope_error_of (prediction_of pier_book pier) ≡ 499787366400000000000000000000 }

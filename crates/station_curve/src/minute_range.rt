@@ -17,9 +17,10 @@ pub struct MinuteRange {
 }
 
 impl MinuteRange {
-    /// Returns true if a minute of this range is in the year from `start` up to but not including
-    /// `end`, or at most 60 minutes before `start` or after `end`. `start` and `end` are minutes since
-    /// 1970-01-01T00:00Z.
+    /// Returns true if a minute of this range is at most an hour from the year that begins at
+    /// minute `start` and ends before minute `end`: in the year, at most 60 minutes before `start`,
+    /// or at most 60 minutes after `end`. Minutes are counted from 1970-01-01T00:00Z; `end` and the
+    /// range's last minute are at most 10^12 in absolute value.
     pub fn touches(self, start: i64, end: i64) -> bool
         requires last { unsigned_abs self.last ≤ 10 ^ 12 }
         requires end { unsigned_abs end ≤ 10 ^ 12 }
@@ -38,7 +39,8 @@ fn is_within_hour(minute: i64, other: i64) -> bool
 }
 
 /// Returns the range from the first minute of the book's years to the first minute after them, both
-/// included.
+/// included, counted from 1970-01-01T00:00Z. The first and the last minute (`in_range` and
+/// `near_last`) are at most 10^12 in absolute value.
 pub fn all_minutes(book: &ValidBook<'_>) -> MinuteRange
     ensures first { result.first ≡ year_start_of book.now.first_year }
     ensures last { result.last ≡ year_start_of (book.now.first_year +ℤ pos book.now.years) }

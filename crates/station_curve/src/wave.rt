@@ -48,9 +48,11 @@ impl Model for Wave {
 }
 
 impl Wave {
-    /// Returns the wave with `amplitude` in millionths of the station's unit, `speed` in units of
-    /// 1/600,000,000 degree a minute, and `phase`, the angle one hour before the year begins, in units
-    /// of 1/600,000,000 degree.
+    /// Returns the wave with `amplitude` in millionths of the station's unit, at most 10^9 in
+    /// absolute value; `speed` in units of 1/600,000,000 degree a minute, at most 3,600,000,000
+    /// (six degrees a minute); and `phase`, the angle one hour before the year begins, in units of
+    /// 1/600,000,000 degree, less than a full circle. `amplitude` times `speed` is at most 10^17 in
+    /// absolute value.
     pub fn new(amplitude: i64, speed: u64, phase: u64) -> Wave
         requires amplitude { unsigned_abs amplitude ≤ 10 ^ 9 }
         requires speed { speed ≤ 3600000000 }
@@ -70,9 +72,10 @@ impl Wave {
         }
     }
 
-    /// Returns the wave's height (what it adds to the level) at `minutes`, the time in minutes counted
-    /// from one hour before the year's start, from 0 to 600,000. The height is in billionths of a
-    /// millionth of the station's unit.
+    /// Returns the wave's height (what it adds to the level) at `minutes`, the time in minutes
+    /// counted from one hour before the year's start, from 0 to 600,000. The height is in
+    /// billionths of a millionth of the station's unit, and at most the amplitude in absolute
+    /// value.
     pub fn height(&self, minutes: u64) -> i64
         requires { minutes ≤ 600000 }
         ensures value { result ≡ height_at minutes self.now }
@@ -81,10 +84,10 @@ impl Wave {
         self.by_amplitude(binary_angle_sine(self.binary_angle_ahead(minutes)))
     }
 
-    /// Returns the wave's fall (what it adds to the slope, negated) at `minutes`, the time in minutes
-    /// counted from one hour before the year's start, from 0 to 600,000. The fall is in billionths of a
-    /// millionth of the station's unit a minute, multiplied by 34,377,467,708 (the units of angle in a
-    /// radian).
+    /// Returns the wave's fall (what it adds to the slope, negated) at `minutes`, the time in
+    /// minutes counted from one hour before the year's start, from 0 to 600,000. The fall is in the
+    /// station's unit a minute, multiplied by 10^15 * 34,377,467,708 (the units of angle in a
+    /// radian). Its absolute value is at most 10^9 times that of amplitude times speed.
     pub fn fall(&self, minutes: u64) -> i128
         requires { minutes ≤ 600000 }
         ensures value { result ≡ fall_at minutes self.now }
@@ -95,8 +98,9 @@ impl Wave {
     }
 
     /// Returns the wave's approximate height (what it adds to the level) at `minutes`, the time in
-    /// minutes counted from one hour before the year's start, from 0 to 600,000. The height is in units
-    /// of 2^15 * 10^-15 of the station's unit.
+    /// minutes counted from one hour before the year's start, from 0 to 600,000. Multiplied by
+    /// 2^15, the result is in billionths of a millionth of the station's unit. It is at most 30,518
+    /// (10^9 / 2^15, rounded up) times the amplitude in absolute value.
     pub fn approximate_height(&self, minutes: u64) -> i64
         requires { minutes ≤ 600000 }
         ensures value { result ≡ approximate_height_at minutes self.now }
@@ -105,10 +109,11 @@ impl Wave {
         self.by_amplitude(approximate_sine(self.binary_angle_ahead(minutes)))
     }
 
-    /// Returns the wave's approximate fall (what it adds to the slope, negated) at `minutes`, the time
-    /// in minutes counted from one hour before the year's start, from 0 to 600,000. The fall is in
-    /// units of 2^24 / 34,377,467,708 of 10^-15 of the station's unit a minute (34,377,467,708 units of
-    /// angle are a radian).
+    /// Returns the wave's approximate fall (what it adds to the slope, negated) at `minutes`, the
+    /// time in minutes counted from one hour before the year's start, from 0 to 600,000. Multiplied
+    /// by 2^24, the result is in the station's unit a minute, multiplied by 10^15 * 34,377,467,708
+    /// (the units of angle in a radian). It is at most 60 (10^9 / 2^24, rounded up) times amplitude
+    /// times speed in absolute value.
     pub fn approximate_fall(&self, minutes: u64) -> i64
         requires { minutes ≤ 600000 }
         ensures value { result ≡ approximate_fall_at minutes self.now }
@@ -117,8 +122,10 @@ impl Wave {
         self.factor * approximate_sine(self.binary_angle_after(minutes))
     }
 
-    /// Returns the wave's addends to the four sums over the waves of a year (`amount`, `steep`, `near`,
-    /// `far`). The fields of [`Sums`] say the units.
+    /// Returns what the wave adds to the four sums over the waves of a year: to `amount` its
+    /// amplitude, without sign; to `steep` the amplitude times its speed; to `near` and `far` these
+    /// two, each times a bound on the change of its sine in a minute, which is at most 104,724,001
+    /// billionths (for six degrees). The fields of [`Sums`] say the units.
     pub fn sums(&self) -> Sums
         ensures amount { result.amount ≡ pos (unsigned_abs self.now.amplitude) }
         ensures steep { result.steep ≡ pos (unsigned_abs self.now.amplitude * self.now.speed) }

@@ -12,8 +12,8 @@ use harmonics_book::{Station, ValidBook};
 
 /// Returns true if a quick test shows that the constants of `station` are within the limits
 /// `MOST_AMOUNT` and `MOST_STEEPNESS` in each year of the book: it uses the greatest node factor of
-/// each constituent for all years. If the result is false, a year may still be within them. `present`
-/// holds the indices of the constituents with an amplitude other than 0.
+/// each constituent for all years. If the result is false, a year may still be within them.
+/// `present` holds the indices of the constituents with an amplitude other than 0, at most 500.
 pub fn are_years_within(book: &ValidBook<'_>, station: &Station, present: &[usize]) -> bool
     requires station { IsStation (length book.now.constituents) station.now }
     requires present { present.now ≡ present_in book.now station.now }

@@ -30,8 +30,10 @@ pub struct Sums {
     pub far: i128,
 }
 
-/// Returns the four sums (`amount`, `steep`, `near`, `far`) over `waves`, the waves of one station in
-/// one year.
+/// Returns four sums over `waves`, the waves of one station in one year: `amount` of the absolute
+/// values of the amplitudes, at most 10^9 millionths; `steep` of amplitude times speed, at most
+/// 10^17; and `near` and `far`, bounds on the change of the level and of the slope in a minute. The
+/// fields of [`Sums`] say the units.
 pub fn sums_of_waves(waves: &[Wave]) -> Sums
     requires amount { amount_of waves.now ≤ 10 ^ 9 }
     requires steepness { steepness_of waves.now ≤ 10 ^ 17 }

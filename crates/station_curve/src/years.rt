@@ -44,8 +44,9 @@ impl Year {
         (m - self.start + HOUR) as u64
     }
 
-    /// Returns true if the minutes from `first` to `last`, both included, are at least 60 minutes after
-    /// the year's first minute and at least 60 minutes before the next year's first minute.
+    /// Returns true if the minutes from `first` to `last`, both included, are at least 60 minutes
+    /// after the year's first minute and at least 60 minutes before the next year's first minute.
+    /// Both are at most 4,000,000,000 in absolute value, as all minutes of the years 2 to 9300 are.
     pub fn surrounds(&self, first: i64, last: i64) -> bool
         requires first { unsigned_abs first ≤ 4000000000 }
         requires last { unsigned_abs last ≤ 4000000000 }

@@ -2,8 +2,8 @@
 -- degree 5 with first and second derivatives of 0 at both ends).
 use Rattle.std.specs.Prelude.{ℕ, ℤ, pos, negsuc, ◌+ℤ◌, ◌-ℤ◌, ◌*ℤ◌, ◌≤ℤ◌}
 
--- the sum of the weights of the earlier and the later year in a blend at a new year, the same at each
--- minute
+-- the sum of the weights of the earlier and the later year in a blend (less than an hour from a new
+-- year between two of the years), the same at each minute
 abbrev pub total_weight : ℕ
 total_weight = 4147200000
 

@@ -49,8 +49,9 @@ abbrev pub IsPlaceUsed : Prediction → ℤ → Place → Type 0
 IsPlaceUsed c m (Plain year) = IsUsed c year m
 IsPlaceUsed c m (Blend year x) = (0 < year) × IsUsed c year m × IsUsed c (year - 1) m × IsWithinHourOfNewYear x
 
--- the Option is the index (0 for `first_year`) of the year that contains minute m, or None if m is in
--- the blend at a new year (less than an hour from it)
+-- the Option is the index (0 for `first_year`) of the year that contains minute m, if m is in no
+-- blend (the position `Plain year`), or None if m is less than an hour from a new year between two
+-- of the `years` years (the position `Blend year x`, x minutes after the start of `year`)
 abbrev pub IsPlainYear : ℤ → ℕ → ℤ → Option ℕ → Type 0
 IsPlainYear first_year years m (Some year) =
     (Plain year ≡ place_of first_year years m) × (year < years) × IsWithinHourOfYear first_year year m

@@ -36,9 +36,10 @@ pub record IsReadyYear (b : Book) (s : Station) (first last : ℤ) (year : ℕ) 
   pub waves : y.waves.items ≡ stored_over b s first last year
   pub sums : y.sums ≡ sums_of (waves_over b s first last year)
 
--- `years` are the stored forms of the first `count` years of the book, for a curve of the minutes from
--- `first` to `last`: each has its first minute, the next year's first minute, its stored waves and
--- their sums, and none exceeds a limit
+-- `years` are the stored forms of the first `count` years of the book, for a curve of the minutes
+-- from `first` to `last`: each has its first minute, the next year's first minute, its waves with
+-- an amplitude other than 0 (none if the year is more than an hour from these minutes) and their
+-- sums, and no year exceeds a limit
 pub record AreReady (b : Book) (s : Station) (first last : ℤ) (count : ℕ) (years : List Year) : Type 0 where
   pub counted : length years ≡ count
   pub waves : (k : ℕ) (d : Year) → k < count → (slice_index_or years k d).waves.items ≡ stored_over b s first last k

@@ -16,10 +16,10 @@ impl StationCurve {
     ghost use Rattle.station_curve.specs.Curves.{IsPredicted, IsPrediction};
     ghost use Rattle.station_curve.specs.Workings.NumberRanges.{IsPlaceUsed, IsPlainYearOf, IsAround};
 
-    /// Returns the year or years with the constants that the minutes from `m` to `m + n`, both
-    /// included, use: one year if each of these minutes is at least an hour from every new year between
-    /// two of the book's years, and otherwise the two years around that new year. `m` and `m + n` are
-    /// minutes of the curve, and `n` is at most `LONGEST_SPAN` (1,024).
+    /// Returns which years' constants determine the level at the minutes from `m` to `m + n`, both
+    /// included: one year's if each of these minutes is at least an hour from every new year
+    /// between two of the book's years, and otherwise those of the two years around that new year.
+    /// `m` and `m + n` are minutes of the curve, and `n` is at most `LONGEST_SPAN` (1,024).
     #[inline(always)]
     pub fn stretch(&self, m: i64, n: u32) -> Stretch
         requires first { IsPredicted self.now m }
