@@ -12,11 +12,11 @@ use Rattle.year_blend.specs.Years.{year_start_of}
 use Rattle.rate_bound.specs.declared.version.Version.{Version}
 use Rattle.rate_bound.specs.Rates.{predicted_slope_rate, predicted_level_rate}
 
--- the curve whose value is a station's slope (the rate at which its level changes), summed over all
--- constituents of the book. It rises past 0 at a low water, and falls to 0 or below at a high
--- water. It is in billionths of a millionth of the station's unit a minute, multiplied by
--- 34,377,467,708 (the units of angle in a radian) and by 4,147,200,000 (the total weight of a
--- blend)
+-- the curve whose value is the slope of a station, summed over all constituents of the book, at all
+-- minutes of the book's years and the first minute after them: it rises past 0 at a low water, and
+-- falls to 0 or below at a high water; in the station's unit a minute, multiplied by
+-- 10^15 * 34,377,467,708 * 4,147,200,000 (34,377,467,708 units of angle are a radian, and
+-- 4,147,200,000 is the total weight of a blend)
 abbrev pub predicted_turn : Version → Book → Station → CurveSpec
 predicted_turn version b s = record {
   first = year_start_of b.first_year;
@@ -25,16 +25,18 @@ predicted_turn version b s = record {
   rate = predicted_slope_rate version b s;
 }
 
--- `level` times `times` millionths, plus `plus` less `mark`; `plus` and `mark` are in millionths of the
--- station's unit, `level` in billionths of a millionth of that unit, multiplied by 4,147,200,000 (the
--- total weight of a blend), and the result in millionths of the unit of `level`
+-- `level` multiplied by `times` millionths, plus `plus`, less `mark`; `plus` and `mark` are in
+-- millionths of the station's unit, `level` is in the station's unit, multiplied by
+-- 10^15 * 4,147,200,000 (the total weight of a blend), and the result in this unit, multiplied by
+-- 10^21 * 4,147,200,000
 abbrev pub over_mark : ℤ → ℤ → ℤ → ℤ → ℤ
 over_mark times plus mark level =
     (times *ℤ level) +ℤ (pos (10 ^ 6 * total_weight * 10 ^ 9) *ℤ (plus -ℤ mark))
 
--- the curve whose value is the level, summed over all constituents of the book, times `times`
--- millionths, plus `plus` less `mark` (in millionths of the station's unit). It changes sign at
--- each crossing of the mark; if `slack` is true, the crossings are slack waters, and the mark is 0
+-- the curve whose value is the level, summed over all constituents of the book, multiplied by
+-- `times` millionths, plus `plus`, less `mark` (in millionths of the station's unit), at all minutes
+-- of the book's years and the first minute after them: it changes sign at each crossing of the
+-- mark; if `slack` is true, the crossings are slack waters and the mark is 0
 abbrev pub predicted_mark : Version → Book → Station → ℤ → ℤ → ℤ → Bool → CurveSpec
 predicted_mark version b s times plus mark slack = record {
   first = year_start_of b.first_year;
@@ -48,12 +50,14 @@ predicted_mark version b s times plus mark slack = record {
   rate = predicted_level_rate version times b s;
 }
 
--- the curve whose value is the slope of a station, at the minutes of the prediction `c`
+-- the curve whose value is the slope of a station, at the minutes of the prediction `c`, with the
+-- bounds on the slope's change by the rule `version`; its changes of sign are high and low waters
 abbrev pub turn_spec : Version → Prediction → CurveSpec
 turn_spec version c = record (predicted_turn version c.book c.station) { first = c.first; last = c.last }
 
--- the curve whose value is the level times `times` millionths, plus `plus` less `mark`, at the minutes
--- of the prediction `c`; if `slack` is true, its changes of sign are slack waters
+-- the curve whose value is the level multiplied by `times` millionths, plus `plus`, less `mark`, at
+-- the minutes of the prediction `c`, with the bounds on its change by the rule `version`; its
+-- changes of sign are crossings of the mark, or slack waters if `slack` is true
 abbrev pub mark_spec : Version → Prediction → ℤ → ℤ → ℤ → Bool → CurveSpec
 mark_spec version c times plus mark slack =
     record (predicted_mark version c.book c.station times plus mark slack) { first = c.first; last = c.last }

@@ -27,25 +27,27 @@ most_rise = 64800000
 abbrev pub most_bend : ℕ
 most_bend = 1663000
 
--- a bound on the change of the slope in a minute, outside the blends at new years: the total weight of
--- a blend multiplied by the `far` of `year`, the four sums over the station's waves in one year. The
--- slope is in billionths of a millionth of the station's unit a minute, multiplied by 34,377,467,708
--- (the units of angle in a radian) and by 4,147,200,000 (the total weight of a blend)
+-- a bound on the change of the slope in a minute, outside the blends at new years: the total weight
+-- of a blend multiplied by `far`, the bound by the year's constants, which is one of the sums over
+-- the year's waves in `year`. The slope is in the station's unit a minute, multiplied by
+-- 10^15 * 34,377,467,708 * 4,147,200,000 (34,377,467,708 units of angle are a radian, and
+-- 4,147,200,000 is the total weight of a blend)
 abbrev pub plain_slope_rate : Sums → ℤ
 plain_slope_rate year = pos total_weight *ℤ year.far
 
--- a bound on the change of the level in a minute, outside the blends at new years: the total weight of
--- a blend multiplied by the `near` of `year`, the four sums over the station's waves in one year. The
--- level is in billionths of a millionth of the station's unit, multiplied by 4,147,200,000 (the total
--- weight of a blend)
+-- a bound on the change of the level in a minute, outside the blends at new years: the total weight
+-- of a blend multiplied by `near`, the bound by the year's constants, which is one of the sums over
+-- the year's waves in `year`. The level is in billionths of a millionth of the station's unit,
+-- multiplied by 4,147,200,000 (the total weight of a blend)
 abbrev pub plain_level_rate : Sums → ℤ
 plain_level_rate year = pos total_weight *ℤ year.near
 
--- a bound on the change of the slope in a minute in the blend at a new year, from the four sums over
--- the station's waves in the years before (`earlier`) and after it (`later`): the greater of both
--- years' bounds, plus what the change of the weights adds. The slope is in billionths of a millionth of
--- the station's unit a minute, multiplied by 34,377,467,708 (the units of angle in a radian) and by
--- 4,147,200,000 (the total weight of a blend)
+-- a bound on the change of the slope in a minute in the blend at a new year, from the four sums
+-- over the station's waves in the years before (`earlier`) and after it (`later`): the greater of
+-- both years' bounds (`far`), plus what the weight's change in a minute (at most `most_rise`) and
+-- the change of the weight's slope (at most `most_bend`) add. The slope is in the station's unit a
+-- minute, multiplied by 10^15 * 34,377,467,708 * 4,147,200,000 (34,377,467,708 units of angle are a
+-- radian, and 4,147,200,000 is the total weight of a blend)
 abbrev pub blended_slope_rate : Sums → Sums → ℤ
 blended_slope_rate earlier later =
     (pos total_weight *ℤ int_max earlier.far later.far)
@@ -53,17 +55,18 @@ blended_slope_rate earlier later =
     +ℤ (pos (most_rise * radian) *ℤ (earlier.near +ℤ later.near))
     +ℤ (pos (most_bend * radian * 10 ^ 9) *ℤ (earlier.amount +ℤ later.amount))
 
--- a bound on the change of the level in a minute in the blend at a new year, from the four sums over
--- the station's waves in the years before (`earlier`) and after it (`later`): the greater of both
--- years' bounds, plus what the change of the weights adds. The level is in billionths of a millionth of
--- the station's unit, multiplied by 4,147,200,000 (the total weight of a blend)
+-- a bound on the change of the level in a minute in the blend at a new year, from the four sums
+-- over the station's waves in the years before (`earlier`) and after it (`later`): the greater of
+-- both years' bounds (`near`), plus what the weight's change in a minute (at most `most_rise`)
+-- adds. The level is in billionths of a millionth of the station's unit, multiplied by
+-- 4,147,200,000 (the total weight of a blend)
 abbrev pub blended_level_rate : Sums → Sums → ℤ
 blended_level_rate earlier later =
     (pos total_weight *ℤ int_max earlier.near later.near)
     +ℤ (pos (most_rise * 10 ^ 9) *ℤ (earlier.amount +ℤ later.amount))
 
--- Some with the bound `rate` on the change of a curve in a minute, or None if it exceeds 4 * 10^34,
--- which is too great for a cell of 1,024 minutes
+-- Some with the bound `rate` on the change of a curve in a minute, or None if it exceeds 4 * 10^34;
+-- so 1,024 times the rate, for the longest cell, is below 5 * 10^37
 abbrev pub limited : ℤ → Option ℤ
 limited rate = if int_le rate (pos (4 * 10 ^ 34)) then Some rate else None
 
@@ -90,10 +93,10 @@ abbrev pub book_sums : Book → Station → ℕ → Sums
 book_sums b s year = sums_of (waves_of b s year)
 
 -- a bound on the change of a station's slope in a minute, over the n minutes from minute `a` on, or
--- None. If some of them are in a blend, less than an hour from a new year, the version First has no
--- bound, and Second has none if it exceeds 4 * 10^34. The slope is in billionths of a millionth of the
--- station's unit a minute, multiplied by 34,377,467,708 (the units of angle in a radian) and by
--- 4,147,200,000 (the total weight of a blend)
+-- None. If some of them are in a blend (less than an hour from a new year between two of the book's
+-- years), the version First has no bound, and Second has none if it exceeds 4 * 10^34. The slope is
+-- in the station's unit a minute, multiplied by 10^15 * 34,377,467,708 * 4,147,200,000
+-- (34,377,467,708 units of angle are a radian, and 4,147,200,000 is the total weight of a blend)
 unfoldable pub predicted_slope_rate : Version → Book → Station → ℤ → ℕ → Option ℤ
 predicted_slope_rate version b s a n =
     slope_rate_in version (book_sums b s) (stretch_of b.first_year b.years a n)

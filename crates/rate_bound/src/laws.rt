@@ -11,10 +11,11 @@ ghost use Rattle.rate_bound.specs.Scale.{IsScale};
 ghost use Rattle.rate_bound.specs.Sizes.{slope_limit, mark_limit, IsBelow};
 ghost use Rattle.rate_bound.specs.CurveSpecs.{turn_spec, mark_spec, predicted_turn, predicted_mark};
 
-/// Proves that the curves of a station, its slope and its level less a mark, keep the law of a curve: in
-/// each minute of a cell (a stretch of minutes) that has a rate, the value changes by at most this rate.
-/// The station's constants must be within the limits: in each year the sizes of its amplitudes sum to at
-/// most 1,000,000,000 millionths of its unit and, times the speeds in units of 1/600,000,000 degree a
+/// Proves that both curves of a station, its slope and its level less a mark, obey the law of
+/// curves: minutes and values are within its limits, and in each minute of a cell (a stretch of
+/// minutes) that has a rate, the value changes by at most this rate. The station's constants must
+/// be within the limits: in each year the absolute values of its amplitudes sum to at most 10^9
+/// millionths of its unit and, each multiplied by the speed in units of 1/600,000,000 degree a
 /// minute, to at most 10^17.
 pub fn curves_are_lawful()
     ensures turn { (version : Version) (c : Prediction) → IsPrediction c → IsLawful (turn_spec version c) }
@@ -22,9 +23,13 @@ pub fn curves_are_lawful()
         IsPrediction c → IsScale times plus mark → IsLawful (mark_spec version c times plus mark slack) }
 {}
 
-/// Proves that the values of a station's curves are small: at each minute that a curve covers, its slope
-/// is below 10^37 in size, and its level less a mark below 5 * 10^36. The units are the ones of
-/// `turn_spec` and `mark_spec`.
+/// Proves limits on the values of a station's curves at each of their minutes: a slope is below
+/// 10^37 in absolute value, and a level less a mark below 5 * 10^36. Slopes are in the station's
+/// unit a minute, multiplied by 10^15 * 34,377,467,708 * 4,147,200,000 (34,377,467,708 units of
+/// angle are a radian, and 4,147,200,000 is the total weight of a blend); levels are in the
+/// station's unit, multiplied by 10^21 * 4,147,200,000. `station_turn` and `station_mark` are about
+/// curves of all minutes of a book's years, `turn` and `mark` about curves of the prediction's
+/// minutes.
 pub fn values_are_small()
     ensures turn { (version : Version) (c : Prediction) → IsPrediction c → IsBelow slope_limit (turn_spec version c) }
     ensures mark { (version : Version) (c : Prediction) (times plus mark : ℤ) (slack : Bool) →

@@ -15,9 +15,9 @@ use curve_law::{Curve, Kind};
 use station_curve::StationCurve;
 use year_blend::Stretch;
 
-/// The curve of a station's level less a mark; the value changes sign at each crossing of the mark. The
-/// station's level is the reference station's times `times` millionths, plus `plus` millionths of the
-/// unit. No call allocates.
+/// The curve of a station's level less a mark; the value changes sign at each crossing of the mark.
+/// The station's level is the reference station's level multiplied by `times` millionths, plus
+/// `plus` millionths of the unit. No call allocates.
 #[derive(Drop)]
 pub struct MarkCurve<'a> {
     station: &'a StationCurve,
@@ -36,13 +36,14 @@ pub struct MarkCurve<'a> {
 impl<'a> MarkCurve<'a> {
     ghost use Rattle.rate_bound.specs.CurveSpecs.{mark_spec};
 
-    /// Returns the curve of the level of the reference `station` times `times` millionths, plus `plus`,
-    /// less `mark`. The curve's change is bounded only outside the blends at new years. `times` is from
-    /// 1 to 100,000,000, and `plus` and `mark` are from -10,000,000,000 to 10,000,000,000 millionths of
-    /// the unit. If `slack` is true, `mark` is 0, and the changes of sign are a current's slack waters;
-    /// otherwise they are crossings of the mark.
+    /// Returns the curve, not yet evaluated, of a level less `mark`: the level of the reference
+    /// `station`, multiplied by `times` millionths, plus `plus`. A bound on the curve's change is
+    /// known only outside the blends (less than an hour from a new year between two of the book's
+    /// years). `times` is from 1 to 100,000,000, and `plus` and `mark` are from -10,000,000,000 to
+    /// 10,000,000,000 millionths of the unit. If `slack` is true, `mark` is 0, and the changes of
+    /// sign are a current's slack waters; otherwise they are crossings of the mark.
     ///
-    /// The program doesn't call it: it calls [`new`](MarkCurve::new), which has a version.
+    /// The program calls [`new`](MarkCurve::new) instead, with the version as an argument.
     pub fn over(station: &'a StationCurve, times: i64, plus: i64, mark: i64, slack: bool) -> Self
         requires scale { IsScale times plus mark }
         requires slack { OnTrue slack (mark ≡ pos 0) }
@@ -53,11 +54,12 @@ impl<'a> MarkCurve<'a> {
         MarkCurve::new(station, Version::First, times, plus, mark, slack)
     }
 
-    /// Returns the curve of the level of the reference `station` times `times` millionths, plus `plus`,
-    /// less `mark`. The curve's change is bounded across new years too. `times` is from 1 to
-    /// 100,000,000, and `plus` and `mark` are from -10,000,000,000 to 10,000,000,000 millionths of the
-    /// unit. If `slack` is true, `mark` is 0, and the changes of sign are a current's slack waters;
-    /// otherwise they are crossings of the mark.
+    /// Returns the curve, not yet evaluated, of a level less `mark`: the level of the reference
+    /// `station`, multiplied by `times` millionths, plus `plus`. A bound on the curve's change is
+    /// known in the blends at new years too. `times` is from 1 to 100,000,000, and `plus` and
+    /// `mark` are from -10,000,000,000 to 10,000,000,000 millionths of the unit. If `slack` is
+    /// true, `mark` is 0, and the changes of sign are a current's slack waters; otherwise they are
+    /// crossings of the mark.
     pub fn blended(station: &'a StationCurve, times: i64, plus: i64, mark: i64, slack: bool) -> Self
         requires scale { IsScale times plus mark }
         requires slack { OnTrue slack (mark ≡ pos 0) }
@@ -68,11 +70,13 @@ impl<'a> MarkCurve<'a> {
         MarkCurve::new(station, Version::Second, times, plus, mark, slack)
     }
 
-    /// Returns the curve, not yet evaluated, of the level of the reference `station` times `times`
-    /// millionths, plus `plus`, less `mark`. `version` says where the curve's change is bounded. `times`
-    /// is from 1 to 100,000,000, and `plus` and `mark` are from -10,000,000,000 to 10,000,000,000
-    /// millionths of the unit. If `slack` is true, `mark` is 0, and the changes of sign are a current's
-    /// slack waters; otherwise they are crossings of the mark.
+    /// Returns the curve, not yet evaluated, of a level less `mark`: the level of the reference
+    /// `station`, multiplied by `times` millionths, plus `plus`. By [`Version::First`] a bound on
+    /// the curve's change is known only outside the blends at new years, by [`Version::Second`]
+    /// also in them. `times` is from 1 to 100,000,000, and `plus` and `mark` are from
+    /// -10,000,000,000 to 10,000,000,000 millionths of the unit. If `slack` is true, `mark` is 0,
+    /// and the changes of sign are a current's slack waters; otherwise they are crossings of the
+    /// mark.
     pub fn new(
         station: &'a StationCurve,
         version: Version,

@@ -9,10 +9,11 @@ use year_blend::TOTAL_WEIGHT;
 /// A millionth in the unit of a curve of millionths times the level: the total weight times 10^15.
 const MILLIONTH: i128 = TOTAL_WEIGHT as i128 * 1_000_000_000_000_000;
 
-/// Returns `level` times `times` millionths, plus `plus` less `mark`. `plus` and `mark` are in
-/// millionths of the station's unit, `level` is in billionths of a millionth of that unit, multiplied
-/// by 4,147,200,000 (the total weight of a blend), and the result is in millionths of the unit of
-/// `level`.
+/// Returns `level` multiplied by `times` millionths, plus `plus`, less `mark`. `plus` and `mark`
+/// are in millionths of the station's unit, at most 10^10 in absolute value, and `times` is at most
+/// 10^8. `level`, at most 12,000 units, is in the station's unit, multiplied by
+/// 10^15 * 4,147,200,000 (the total weight of a blend); the result is in this unit, multiplied by
+/// 10^21 * 4,147,200,000.
 pub fn over_mark(times: i64, plus: i64, mark: i64, level: i128) -> i128
     requires times { unsigned_abs times ≤ 10 ^ 8 }
     requires plus { unsigned_abs plus ≤ 10 ^ 10 }
@@ -23,8 +24,8 @@ pub fn over_mark(times: i64, plus: i64, mark: i64, level: i128) -> i128
     scaled(times, level) + raised(plus - mark)
 }
 
-/// Returns `times * level`, which can't overflow. `level` is a level, or a bound on a level's change in
-/// a minute, of at most 10^29 in size; `times` is at most 10^8 in size.
+/// Returns `times * level`, which can't overflow. `level` is a level, or a bound on a level's
+/// change in a minute, at most 10^29 in absolute value; `times` is at most 10^8 in absolute value.
 pub fn scaled(times: i64, level: i128) -> i128
     requires times { unsigned_abs times ≤ 10 ^ 8 }
     requires level { unsigned_abs level ≤ 10 ^ 29 }

@@ -35,10 +35,10 @@ const BILLION: i128 = 1_000_000_000;
 const MOST_RATE: i128 = 40_000_000_000_000_000_000_000_000_000_000_000;
 
 /// Returns a bound on the change of the slope in a minute, outside the blends at new years:
-/// 4,147,200,000 (the total weight of a blend) multiplied by `year.far`. `year` has the four sums over
-/// the station's waves in one year. The slope is in billionths of a millionth of the station's unit a
-/// minute, multiplied by 34,377,467,708 (the units of angle in a radian) and by 4,147,200,000 (the
-/// total weight of a blend).
+/// 4,147,200,000 (the total weight of a blend) multiplied by `year.far`, the bound by the year's
+/// constants alone. `year` has the four sums over the station's waves in one year. The slope is in
+/// the station's unit a minute, multiplied by 10^15 * 34,377,467,708 * 4,147,200,000
+/// (34,377,467,708 units of angle are a radian).
 pub fn plain_slope_rate(year: &Sums) -> i128
     requires { AreWithinLimits year.now }
     ensures value { result ≡ plain_slope_rate year.now }
@@ -47,9 +47,10 @@ pub fn plain_slope_rate(year: &Sums) -> i128
 }
 
 /// Returns a bound on the change of the level in a minute, outside the blends at new years:
-/// 4,147,200,000 (the total weight of a blend) multiplied by `year.near`. `year` has the four sums over
-/// the station's waves in one year. The level is in billionths of a millionth of the station's unit,
-/// multiplied by 4,147,200,000 (the total weight of a blend).
+/// 4,147,200,000 (the total weight of a blend) multiplied by `year.near`, the bound by the year's
+/// constants alone. `year` has the four sums over the station's waves in one year. The level is in
+/// billionths of a millionth of the station's unit, multiplied by 4,147,200,000. The bound is at
+/// most 10^27.
 pub fn plain_level_rate(year: &Sums) -> i128
     requires { AreWithinLimits year.now }
     ensures value { result ≡ plain_level_rate year.now }
@@ -59,14 +60,13 @@ pub fn plain_level_rate(year: &Sums) -> i128
 }
 
 /// Returns a bound on the change of the slope in a minute in the blend at a new year. `earlier` and
-/// `later` have the four sums over the station's waves in the years before and after it. The bound is
-/// 4,147,200,000 (the total weight of a blend) multiplied by the greater `far`, plus what the change of
-/// the weights adds: 64,800,000 (the greatest change of a weight in a minute) multiplied by 10^9 and by
-/// the sum of both `steep`, and by 34,377,467,708 (the units of angle in a radian) and by the sum of
-/// both `near`; and 1,663,000 (the greatest change of the weight's slope in a minute) multiplied by
-/// 34,377,467,708 (the units of angle in a radian), by 10^9 and by the sum of both `amount`. The slope
-/// is in billionths of a millionth of the station's unit a minute, multiplied by 34,377,467,708 (the
-/// units of angle in a radian) and by 4,147,200,000 (the total weight of a blend).
+/// `later` have the four sums over the station's waves in the years before and after it. The bound
+/// is the greater of both `far` (the bound by a year's constants) times 4,147,200,000 (the total
+/// weight of a blend), plus what the change of the weights adds: 64,800,000 (the greatest change of
+/// a weight in a minute) times 10^9 times both `steep`, and times 34,377,467,708 (the units of
+/// angle in a radian) times both `near`; and 1,663,000 (the greatest change in a minute of a
+/// weight's slope) times 34,377,467,708 * 10^9 times both `amount`. The slope is in the station's
+/// unit a minute, multiplied by 10^15 * 34,377,467,708 * 4,147,200,000.
 #[cold]
 #[inline(never)]
 pub fn blended_slope_rate(earlier: &Sums, later: &Sums) -> i128
@@ -81,11 +81,11 @@ pub fn blended_slope_rate(earlier: &Sums, later: &Sums) -> i128
 }
 
 /// Returns a bound on the change of the level in a minute in the blend at a new year. `earlier` and
-/// `later` have the four sums over the station's waves in the years before and after it. The bound is
-/// 4,147,200,000 (the total weight of a blend) multiplied by the greater `near`, plus 64,800,000 (the
-/// greatest change of a weight in a minute) multiplied by 10^9 and by the sum of both `amount`. The
-/// level is in billionths of a millionth of the station's unit, multiplied by 4,147,200,000 (the total
-/// weight of a blend).
+/// `later` have the four sums over the station's waves in the years before and after it. The bound
+/// is the greater of both `near` (the bound by a year's constants) times 4,147,200,000 (the total
+/// weight of a blend), plus 64,800,000 (the greatest change of a weight in a minute) times 10^9
+/// times the sum of both `amount` (the sum of a year's amplitudes). The level is in billionths of a
+/// millionth of the station's unit, multiplied by 4,147,200,000. The bound is at most 10^27.
 #[cold]
 #[inline(never)]
 pub fn blended_level_rate(earlier: &Sums, later: &Sums) -> i128
@@ -97,8 +97,9 @@ pub fn blended_level_rate(earlier: &Sums, later: &Sums) -> i128
     WEIGHT * earlier.near.max(later.near) + MOST_RISE * BILLION * (earlier.amount + later.amount)
 }
 
-/// Returns `Some(rate)`, or `None` if `rate` exceeds 4 * 10^34, which is too great for a cell of 1,024
-/// minutes. `rate` is a bound on a curve's change in a minute, in the unit of the curve's values.
+/// Returns `Some(rate)`, or `None` if `rate` exceeds 4 * 10^34, so that 1,024 times the rate, for
+/// the longest cell, stays below 5 * 10^37. `rate` is a bound on a curve's change in a minute, in
+/// the unit of the curve's values.
 pub fn limited(rate: i128) -> Option<i128>
     ensures { result ≡ limited rate }
 {

@@ -12,8 +12,8 @@ use curve_law::{Curve, Kind};
 use station_curve::StationCurve;
 use year_blend::Stretch;
 
-/// The curve of a station's slope: the value rises past 0 at a low water, and falls to 0 or below at a
-/// high water. No call allocates.
+/// The curve of a station's slope: the value rises past 0 at a low water, and falls to 0 or below
+/// at a high water. No call allocates.
 #[derive(Drop)]
 pub struct TurnCurve<'a> {
     station: &'a StationCurve,
@@ -27,10 +27,11 @@ pub struct TurnCurve<'a> {
 impl<'a> TurnCurve<'a> {
     ghost use Rattle.rate_bound.specs.CurveSpecs.{turn_spec};
 
-    /// Returns the curve, not yet evaluated, of the slope of `station`. The curve's change is bounded
-    /// only outside the blends at new years.
+    /// Returns the curve, not yet evaluated, of the slope of `station`. A bound on the slope's
+    /// change in a minute is known only outside the blends (less than an hour from a new year
+    /// between two of the book's years).
     ///
-    /// The program doesn't call it: it calls [`new`](TurnCurve::new), which has a version.
+    /// The program calls [`new`](TurnCurve::new) instead, with the version as an argument.
     pub fn over(station: &'a StationCurve) -> TurnCurve<'a>
         ensures curve_spec { (⟦<TurnCurve<'a> as Curve>⟧.state result).curve_model.curve_spec ≡ turn_spec First station.now }
         ensures count { (⟦<TurnCurve<'a> as Curve>⟧.state result).count ≡ 0 }
@@ -38,10 +39,11 @@ impl<'a> TurnCurve<'a> {
         TurnCurve::new(station, Version::First)
     }
 
-    /// Returns the curve, not yet evaluated, of the slope of `station`. The curve's change is bounded
-    /// across new years too.
+    /// Returns the curve, not yet evaluated, of the slope of `station`. A bound on the slope's
+    /// change in a minute is known also in the blends (less than an hour from a new year between
+    /// two of the book's years), unless it exceeds 4 * 10^34.
     ///
-    /// The program doesn't call it: it calls [`new`](TurnCurve::new), which has a version.
+    /// The program calls [`new`](TurnCurve::new) instead, with the version as an argument.
     pub fn blended(station: &'a StationCurve) -> TurnCurve<'a>
         ensures curve_spec { (⟦<TurnCurve<'a> as Curve>⟧.state result).curve_model.curve_spec ≡ turn_spec Second station.now }
         ensures count { (⟦<TurnCurve<'a> as Curve>⟧.state result).count ≡ 0 }
@@ -49,8 +51,9 @@ impl<'a> TurnCurve<'a> {
         TurnCurve::new(station, Version::Second)
     }
 
-    /// Returns the curve, not yet evaluated, of the slope of `station`. `version` says where the curve's
-    /// change is bounded.
+    /// Returns the curve, not yet evaluated, of the slope of `station`. By [`Version::First`] a
+    /// bound on the slope's change in a minute is known only outside the blends at new years; by
+    /// [`Version::Second`] also in them, unless it exceeds 4 * 10^34.
     pub fn new(station: &'a StationCurve, version: Version) -> TurnCurve<'a>
         ensures curve_spec { (⟦<TurnCurve<'a> as Curve>⟧.state result).curve_model.curve_spec ≡ turn_spec version station.now }
         ensures count { (⟦<TurnCurve<'a> as Curve>⟧.state result).count ≡ 0 }

@@ -16,15 +16,15 @@ ghost use Rattle.rate_bound.specs.CurveSpecs.{predicted_turn, predicted_mark};
 
 /// Proves bounds on the change in a minute of the slope (`predicted_slope_rate`), and of the level
 /// multiplied by a number of millionths (`predicted_level_rate`), for a tide of 12 hours with an
-/// amplitude of one foot. The last two arguments are the first minute and the number of minutes: 8 from
-/// 00:00 UTC on 10 January 2000 (15791040), and 4 from 23:00 UTC on 31 December 1999 (15778020), which
-/// reach the blend of two years' constants at the new year. In a blend `Version.First` has no bound
-/// (`None`). `Version.Second` has one for each level, and for a slope unless the bound exceeds 4 *
-/// 10^34: so `None` in `steepest_across`, for `small_station (pos 333333333) Feet`, the steepest tide
-/// within the limits (333.333333 feet at 30 degrees an hour). A slope is in billionths of a millionth
-/// of a foot a minute, multiplied by 34,377,467,708 (the units of angle in a radian) and by
-/// 4,147,200,000 (the total weight of a blend). A level is in billionths of a millionth of a foot,
-/// multiplied by 4,147,200,000 (the total weight of a blend); its bound is in millionths of this unit.
+/// amplitude of one foot. The last two arguments are the first minute and the number of minutes: 8
+/// from 00:00 UTC on 10 January 2000 (15791040), or 4 from 23:00 UTC on 31 December 1999
+/// (15778020), which reach the blend of two years' constants at the new year. In a blend
+/// `Version.First` has no bound (`None`), and `Version.Second` has none in `steepest_across`: for
+/// 333.333333 feet, the steepest tide within the limits, the bound exceeds 4 * 10^34. Slopes are in
+/// feet a minute, multiplied by 10^15 * 34,377,467,708 * 4,147,200,000 (34,377,467,708 units of
+/// angle are a radian, and 4,147,200,000 is the total weight of a blend). Levels are in feet,
+/// multiplied by 10^15 * 4,147,200,000, and their bounds have the factor in millionths (1000000 or
+/// 2000000) too.
 pub fn worked_rates()
     ensures plain { predicted_slope_rate Version.First pier_book pier (pos 15791040) 8
         ≡ Some (pos 10857785564160000000000000000000) }
@@ -43,18 +43,20 @@ pub fn worked_rates()
         ≡ Some (pos (2000000 * 165792618547200000000000)) }
 {}
 
-/// Proves slopes and cells for the slope of a tide of 12 hours with an amplitude of one foot, highest
-/// at noon and midnight; times are UTC. From 00:00 on 10 January 2000 (15791040) the slope falls from
-/// 0, and the curve's rate (the bound on its change in a minute) is 0.04 per cent too great for one
-/// cell of eight minutes without an event. There is a low water of -1 foot after 06:00 (15791400), and
-/// a high water of 0.999962 feet after 11:59 (15791759). `before_a_new_year` and `in_its_blend` give
-/// the slope at 23:00 on 31 December 1999 (15778020) and at 23:04 (15778024), in the blend of two
-/// years' constants, in billionths of a millionth of a foot a minute, multiplied by 34,377,467,708 (the
-/// units of angle in a radian) and by 4,147,200,000 (the total weight of a blend). The eight minutes
-/// from 23:00 on are two cells without an event by `Version.Second`; `Version.First` has no rate in a
-/// blend, so it accepts only a cell for each minute. Without a tide (amplitude 0), the 1,024 minutes
-/// from 16:00 on 31 December 1999 (15777600) are one cell by `Version.Second`, and not by
-/// `Version.First`.
+/// Proves cells and slopes for a tide of 12 hours with an amplitude of one foot, highest at noon
+/// and midnight; times are UTC. `cover` returns the cells of a span, and `verdict` checks given
+/// ones. A cell is `Still` (a minute with no event after it), `Quiet n` (n such minutes) or `Turn`
+/// (a minute with an event after it; its number is the level, in millionths of a foot). From 00:00
+/// on 10 January 2000 (15791040) the slope falls from 0, and the rate (the bound on its change in a
+/// minute) is 0.09 per cent too great for one cell of eight minutes, so the verdict is `NotQuiet`
+/// (cell 1). There is a low water of -1 foot after 06:00 (15791400), and a high water of 0.999962
+/// feet after 11:59 (15791759). The slope is 0.004363 feet a minute at 23:00 on 31 December 1999
+/// (15778020), and 0.004097 at 23:04, in the blend of two years' constants. The eight minutes from
+/// 23:00 on are two cells by `Version.Second`; `Version.First` has no rate in a blend, so it
+/// accepts only a cell for each minute. Without a tide (amplitude 0), the 1,024 minutes from 16:00
+/// on (15777600) are one cell, but not by `Version.First`. Slopes are in feet a minute, multiplied
+/// by 10^15 * 34,377,467,708 * 4,147,200,000 (34,377,467,708 units of angle are a radian, and
+/// 4,147,200,000 is the total weight of a blend).
 pub fn worked_turns()
     ensures from_midnight { cover (predicted_turn Version.First pier_book pier) (pos 15791040) 8
         ≡ Cell.Still ∷ Cell.Still ∷ Cell.Quiet 2 ∷ Cell.Quiet 4 ∷ [] }
@@ -81,14 +83,16 @@ pub fn worked_turns()
         (Cell.Quiet 1024 ∷ []) ≡ Verdict.NotQuiet 1 }
 {}
 
-/// Proves values and cells of the curve `predicted_mark version book station times plus mark slack`:
-/// the level multiplied by `times`, plus `plus`, less `mark`, all three in millionths. The tide has 12
-/// hours, an amplitude of one foot and high water at midnight; times are UTC on 10 January 2000. The
-/// level is 1 foot at 00:00 (15791040) and a half at 02:00 (15791160), so there twice the level plus
-/// one half is at the mark 1.5. The level falls to the mark 0.5 after 01:59 (15791159), and rises above
-/// it after 10:00 (15791640). If `slack` is true, the events are slack waters: ebb begins after 02:59
-/// (15791219), flood after 09:00 (15791580). A value is in millionths of a level's unit, which is
-/// 10^-15 of a foot divided by 4,147,200,000 (the total weight of a blend).
+/// Proves values and cells of the curve `predicted_mark version book station times plus mark
+/// slack`: the level multiplied by `times`, plus `plus`, less `mark`, all three in millionths. The
+/// tide has 12 hours, an amplitude of one foot and high water at midnight; times are UTC on 10
+/// January 2000. The level is 1 foot at 00:00 (15791040) and a half at 02:00 (15791160), so there
+/// twice the level plus one half is at the mark 1.5. The level falls to the mark 0.5 after 01:59
+/// (15791159), and rises above it after 10:00 (15791640). If `slack` is true, the events are slack
+/// waters: ebb begins after 02:59 (15791219), flood after 09:00 (15791580). `Cell.Turn` has an
+/// event's kind and the level, in millionths of a foot, at the minute before it; `Cell.Still` is a
+/// minute with no event after it. Values are in feet, multiplied by 10^21 * 4,147,200,000 (the
+/// total weight of a blend).
 pub fn worked_marks()
     ensures highest { (predicted_mark Version.Second pier_book pier (pos 1000000) (pos 0) (pos 0) true).track.value (pos 15791040)
         ≡ pos 4147200000000000000000000000000 }
