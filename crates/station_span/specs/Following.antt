@@ -55,7 +55,8 @@ followed_by version book site mark = record {
 abbrev pub followed : Book → Site → SpanRequest → Followed
 followed book site span_request = followed_by Second book site span_request.mark
 
--- the events of a station over the span of a request
+-- the events of a station over the span of a request: its reference station's events, with the
+-- offsets
 unfoldable pub events_of : Book → Site → SpanRequest → List Event
 events_of book site span_request = station_events (followed book site span_request) site.basis span_request.begin span_request.end
 
@@ -64,7 +65,7 @@ events_of book site span_request = station_events (followed book site span_reque
 unfoldable pub tracks_of : Book → Site → SpanRequest → Tracks
 tracks_of book site span_request = covers_of (followed book site span_request) (widened_of site.basis span_request.begin span_request.end)
 
--- the number of cells of all curves of a station's events, over the minutes of the reference station
--- that determine the events of the span
+-- the number of cells (stretches of minutes with at most one event) of all curves of a station's
+-- events, over the minutes of the reference station that determine the events of the span
 unfoldable pub cells_of : Book → Site → SpanRequest → ℕ
 cells_of book site span_request = cell_count (followed book site span_request) (widened_of site.basis span_request.begin span_request.end)

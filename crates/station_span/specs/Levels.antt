@@ -15,11 +15,12 @@ abbrev pub level_in : Basis → Result (Unit {0}) Refusal
 level_in basis = if is_equal basis then Ok tt else Err LevelNotHere
 
 -- the station's level at a minute, in millionths of its unit: the reference station's level at the
--- minute less the offset's minutes, times the offset's factor, plus the offset's height
+-- minute less the minutes of the high-water offset, multiplied by the offset's factor and rounded,
+-- plus the offset's height
 abbrev pub level_at : Book → Site → ℤ → ℤ
 level_at book site minute = scaled site.basis.high (predicted_millionths book site.station (minute -ℤ site.basis.high.add))
 
--- Bool: whether the station's level rises at a minute, that is, whether the reference station's slope at
--- the minute less the offset's minutes is above 0
+-- Bool: whether the station's level rises at a minute, that is, whether the reference station's
+-- slope at the minute less the minutes of the high-water offset is above 0
 abbrev pub is_rising_at : Book → Site → ℤ → Bool
 is_rising_at book site minute = int_lt (pos 0) (predicted_slope book site.station (minute -ℤ site.basis.high.add))

@@ -24,8 +24,8 @@ highest_site book table name span_request = do
   level ← level_in site.basis
   Ok site
 
--- the curve of the reference station's level, without offsets; its values are in 10^-21 of the station's
--- unit, times 4,147,200,000 (the total weight of the blend at a new year)
+-- the curve of the reference station's level, without offsets; its values are in the station's
+-- unit, multiplied by 10^21 * 4,147,200,000 (the total weight of the blend at a new year)
 abbrev pub level_curve : Book → Site → CurveSpec
 level_curve book site = predicted_mark Second book site.station (pos 1000000) (pos 0) (pos 0) true
 
@@ -37,8 +37,8 @@ first_source site span_request = span_request.begin -ℤ site.basis.high.add
 abbrev pub minute_count : SpanRequest → ℕ
 minute_count span_request = unsigned_abs (span_request.end -ℤ span_request.begin)
 
--- the highest water of the reference station among the minutes that the high-water offset moves into the
--- span, with the cells that prove it
+-- the highest water of the reference station among the minutes that the high-water offset moves
+-- into the span (`minute_count` minutes from `first_source` on), with the cells that prove it
 unfoldable pub highest_of : Book → Site → SpanRequest → Peak
 highest_of book site span_request = peak_of (level_curve book site) (first_source site span_request) (minute_count span_request)
 

@@ -44,7 +44,8 @@ span_limit = pos 5270400
 
 -- ---- each step
 
--- the same basis (a reference station and offsets), or the refusal for the fault in finding it
+-- the same basis (the index of a reference station, and offsets from it), or the refusal for the
+-- fault in finding it
 abbrev pub basis_from : Result Basis FindFault → Result Basis Refusal
 basis_from (Ok basis) = Ok basis
 basis_from (Err fault) = Err (refusal_of_find fault)

@@ -40,9 +40,10 @@ pub fn slack_curve<'a>(found_station: &'a FoundStation, version: Version) -> Opt
     Some(MarkCurve::new(&found_station.curve, version, times, plus, 0, true))
 }
 
-/// Returns the curve whose changes of sign are the minutes of the reference station at which the level
-/// of `found_station` crosses the mark of its request, or `None` if the request has no mark. `version`
-/// is the certificate version whose rule bounds the curve's change. The curve is not yet evaluated.
+/// Returns the curve whose changes of sign are the crossings of the request's mark by the level of
+/// `found_station`, at minutes of its reference station, or `None` if the request has no mark.
+/// `version` is the certificate version whose rule bounds the curve's change. The curve is not yet
+/// evaluated.
 pub fn mark_curve<'a>(found_station: &'a FoundStation, version: Version) -> Option<MarkCurve<'a>>
     ensures curve_spec { option_map (λ curve. (⟦<MarkCurve<'a> as Curve>⟧.state curve).curve_model.curve_spec) result
         ≡ mark_over version found_station.now.curve found_station.now.basis found_station.now.span_request.mark }

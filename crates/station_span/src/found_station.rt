@@ -12,8 +12,9 @@ use harmonics_book::Units;
 use station_curve::StationCurve;
 use station_table::Basis;
 
-/// A station that was found by its name, for a request about it that has an answer. Its curve covers the
-/// minutes of the field `span` and the minute at its end, and no others.
+/// A station that was found by its name, with a request about it that can be answered: its span,
+/// mark and purpose. The curve of its reference station covers the minutes of the field `span` and
+/// the minute at its end, and no others.
 #[derive(Drop)]
 pub struct FoundStation {
     /// The station's reference in the book, and its offsets from it.

@@ -14,8 +14,10 @@ use crate::station::earlier;
 use event_list::scaled;
 use tide_fault::Refusal;
 
-/// Returns `Ok` if the station `found_station` has a level at each minute, which it has if its high and
-/// low waters have the same offsets.
+/// Returns `Ok` if the station `found_station` has a level at each minute, which it has if its high
+/// and low waters have the same offsets. Then, if it was found for [`Purpose::Levels`], its level
+/// can be computed at each minute of the requested span and at its end; and in any case, if it was
+/// found for [`Purpose::Events`], at the first minute of that span.
 ///
 /// # Errors
 /// [`Refusal::LevelNotHere`] if the offsets of its high and low waters differ.
@@ -33,10 +35,10 @@ pub fn check_level(found_station: &FoundStation) -> Result<(), Refusal>
     }
 }
 
-/// Returns the level of the station `found_station` at `minute`, in millionths of its unit. `minute` is
-/// counted from 1970-01-01T00:00Z. The level is the reference station's, at `minute` less the offset's
-/// minutes, times the offset's factor (rounded to whole millionths), plus the offset's height. The call
-/// doesn't allocate.
+/// Returns the level of the station `found_station` at `minute`, in millionths of its unit.
+/// `minute` is counted from 1970-01-01T00:00Z. The level is the reference station's, at `minute`
+/// less the minutes of the high-water offset, multiplied by the offset's factor and rounded to
+/// whole millionths, plus the offset's height. The call doesn't allocate.
 pub fn level_at(found_station: &FoundStation, minute: i64) -> i64
     requires { IsEvaluable found_station.now minute }
     ensures { result ≡ level_at found_station.now.curve.book (site_of found_station.now) minute }
@@ -47,8 +49,9 @@ pub fn level_at(found_station: &FoundStation, minute: i64) -> i64
     scaled(&found_station.basis.high, level)
 }
 
-/// Returns true if the level of the station `found_station` rises at `minute`, that is, if the slope of
-/// its reference station at `minute` less the offset's minutes is above 0. The call doesn't allocate.
+/// Returns true if the level of the station `found_station` rises at `minute`, that is, if the
+/// slope of its reference station at `minute` less the minutes of the high-water offset is above 0.
+/// The call doesn't allocate.
 pub fn is_rising(found_station: &FoundStation, minute: i64) -> bool
     requires { IsEvaluable found_station.now minute }
     ensures { result ≡ is_rising_at found_station.now.curve.book (site_of found_station.now) minute }
@@ -56,8 +59,9 @@ pub fn is_rising(found_station: &FoundStation, minute: i64) -> bool
     found_station.curve.slope(source(found_station, minute)) > 0
 }
 
-/// Returns the reference station's minute that the offset of the station `found_station` moves to
-/// `minute`: `minute` less the offset's minutes.
+/// Returns the reference station's minute at which its level determines the level of
+/// `found_station` at `minute`: `minute` less the minutes of the high-water offset. It is one of
+/// the curve's minutes (`inside`).
 pub fn source(found_station: &FoundStation, minute: i64) -> i64
     requires { IsEvaluable found_station.now minute }
     ensures exact { result ≡ minute -ℤ found_station.now.basis.high.add }

@@ -87,10 +87,10 @@ pub fn highest_minute(found_station: &FoundStation) -> i64
     .minute
 }
 
-/// Returns [`PeakVerdict::Accepted`] if `peak` and its cells prove the highest water of the reference
-/// station among the minutes that the high-water offset of `found_station` moves into the span of its
-/// request; otherwise the first fault. The size of `peak.value` is below 10^37, and `peak` has fewer
-/// than 2^32 cells. The call doesn't allocate.
+/// Returns [`PeakVerdict::Accepted`] if `peak` and its cells prove the highest water of the
+/// reference station among the minutes that the high-water offset of `found_station` moves into the
+/// span of its request; otherwise the first fault. `peak.value` is below 10^37 in absolute value,
+/// and `peak` has fewer than 2^32 cells. The call doesn't allocate.
 pub fn judge_highest(found_station: &FoundStation, peak: &Peak) -> PeakVerdict
     requires peak { HasPeak found_station.now }
     requires size { unsigned_abs peak.now.value < 10 ^ 37 }

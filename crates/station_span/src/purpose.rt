@@ -1,6 +1,8 @@
 //! The minutes of a reference station that an answer needs.
 
-/// The purpose of a request, which determines the minutes of the reference station that it needs.
+/// The purpose of a request about a station. It determines the minutes of the reference station
+/// that the answer needs: for events, all whose events the offsets can move into the requested
+/// span; for levels and the highest water, those that the offset moves into it.
 #[derive(Clone, Copy)]
 pub enum Purpose {
     /// The request is for events: it needs the reference's minutes whose events the station's offsets

@@ -40,8 +40,10 @@ use year_blend::year_start;
 /// The greatest number of minutes of a span.
 const SPAN_LIMIT: i64 = 5_270_400;
 
-/// Returns the station that `request` names, one of `stations`, with the span and mark of `request`, and
-/// with the curve of its reference station over the minutes that `purpose` needs.
+/// Returns the station that `request` names, one of `stations`, with the span and mark of
+/// `request`, and with the curve of its reference station. The curve covers the minutes that
+/// `purpose` needs: for events, all whose events the offsets can move into the span; for levels and
+/// the highest water, those that the offset moves into it.
 ///
 /// # Errors
 /// The first [`Refusal`] in this order: the station isn't found, it is a hydraulic current, its span is

@@ -13,9 +13,12 @@ use station_curve::StationCurve;
 use std::alloc::Global;
 use tide_fault::Refusal;
 
-/// Returns the level and slope curve of `station`, which has index `index` in the list of `book`, for
-/// the minutes of `span` and the minute at its end. The result is a [`Refusal`] if the station is a
-/// hydraulic current, its constants exceed a limit in some year of the book, or memory runs out.
+/// Returns the level and slope curve of `station`, which has index `index` in the list of `book`,
+/// for the minutes of `span` and the minute at its end.
+///
+/// # Errors [`Refusal::Hydraulic`] for a hydraulic current; [`Refusal::TooLarge`] or
+/// [`Refusal::TooSteep`] if the station's constants exceed a limit in some year of the book;
+/// [`Refusal::NoMemory`] if memory runs out.
 pub fn curve_over(
     alloc: Global,
     book: &ValidBook<'_>,

@@ -7,9 +7,9 @@ use crate::span_request::SpanRequest;
 use decimal_text::Text;
 use std::marker::Model;
 
-/// A request about a station, which it names: a span and an optional mark. The name is borrowed. Minutes
-/// are at most 20,000,000,000 in size, and the mark at most 10,000,000,000 millionths. In contracts its
-/// value is the name, the span and the mark.
+/// A request about the station with a given name: a span and an optional mark. The name is
+/// borrowed. The span's minutes are at most 20,000,000,000 in absolute value, and the mark at most
+/// 10,000,000,000 millionths. In contracts its value is the name, the span and the mark.
 #[derive(Drop)]
 pub struct StationRequest<'a> {
     name: &'a Text,

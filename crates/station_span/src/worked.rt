@@ -7,9 +7,11 @@ ghost use Rattle.station_span.specs.Sites.{span_in, length_in};
 ghost use Rattle.station_table.specs.Bases.{reference_basis};
 ghost use Rattle.station_curve.specs.Worked.{pier_book};
 
-/// Proves examples of spans, for a harmonics file of the years 1999 to 2001: which are accepted, and
-/// which are refused because they are outside these years, backward, longer than 5,270,400 minutes, or
-/// empty in a request for the highest water.
+/// Proves examples of spans of a reference station, for a harmonics file of the years 1999 to 2001,
+/// that is from 00:00 UTC on 1 January 1999 (15252480) up to but not including 1 January 2002
+/// (16830720). The whole file is accepted. Refused are spans that end or begin one minute outside
+/// these years, are backward, are longer than 5,270,400 minutes (3,660 days), or are empty in a
+/// request for the highest water.
 #[tactic(auto, unfolding(crate::specs::Sites::span_in, crate::specs::Sites::lacks_minute, crate::specs::Sites::length_in, year_blend::specs::Years::year_start_of, jiff_core::specs::Calendar::days_from_civil, jiff_core::specs::Calendar::day_count, jiff_core::specs::Calendar::days_of_years, jiff_core::specs::Calendar::days_of_months))]
 pub fn worked_spans()
     ensures whole { span_in Purpose.Events pier_book (reference_basis 0) (pos 15252480) (pos 16830720) ≡ Ok tt }

@@ -19,14 +19,16 @@ over p c = at_minutes p.first p.last c
 abbrev pub all_over : Prediction → Followed → Followed
 all_over p f = record { turn = over p f.turn; slack = option_map (over p) f.slack; mark = option_map (over p) f.mark }
 
--- the curve whose changes of sign are the slack waters, at the minutes of the prediction `p`, or None if
--- slack waters aren't listed
+-- the curve whose changes of sign are the station's slack waters, at the minutes of the prediction
+-- `p` of its reference station: the reference's level with the factor and height for slack waters;
+-- None if slack waters aren't listed
 abbrev pub slack_over : Version → Prediction → Basis → Option CurveSpec
 slack_over version p basis =
     if_asked (asks_slack p.station.units basis) (mark_spec version p (slack_times basis) (slack_plus basis) (pos 0) true)
 
--- the curve whose changes of sign are the crossings of the mark, at the minutes of the prediction `p`,
--- or None if there is no mark
+-- the curve whose changes of sign are the crossings of the mark, at the minutes of the prediction
+-- `p` of the reference station: the reference's level with the high-water offset's factor and
+-- height, less the mark; None if there is no mark
 abbrev pub mark_over : Version → Prediction → Basis → Option ℤ → Option CurveSpec
 mark_over version p basis mark = option_map (λ level. mark_spec version p basis.high.times basis.high.plus level false) mark
 

@@ -41,8 +41,8 @@ pub record IsFoundIn (reach_for : Purpose) (book_read : Book) (asked_for : SpanR
   pub book : found_station.curve.book ≡ book_read
   pub span_request : found_station.span_request ≡ asked_for
 
--- the last argument is the expected station, or the expected refusal, or a refusal because memory ran
--- out
+-- the last argument is Ok with the expected station, found for this purpose, span and mark, or Err
+-- with the expected refusal, or with the refusal that memory ran out
 abbrev pub FindsIn : Purpose → Book → SpanRequest → Result Site Refusal → Result FoundStation Refusal → Type 0
 FindsIn purpose book span_request expected (Ok found_station) = IsFoundIn purpose book span_request expected found_station
 FindsIn purpose book span_request expected (Err refusal) = Excused (refusal_is_out_of_memory refusal) expected refusal
@@ -57,16 +57,16 @@ pub record IsReferenceFound (book : Book) (expected : Result Site Refusal) (refe
   pub curve : reference.curve ≡ prediction_of book site.station
   pub valid : IsPrediction reference.curve
 
--- the last argument is the expected reference station, or the expected refusal, or a refusal because
--- memory ran out
+-- the last argument is Ok with the expected reference station, or Err with the expected refusal, or
+-- with the refusal that memory ran out
 abbrev pub FindsReference : Book → Result Site Refusal → Result ReferenceStation Refusal → Type 0
 FindsReference book expected (Ok reference) = IsReferenceFound book expected reference
 FindsReference book expected (Err refusal) = Excused (refusal_is_out_of_memory refusal) expected refusal
 
 -- ---- levels
 
--- the level of `found_station` at `minute` can be computed: the reference station's minute that the
--- offset moves to `minute` is one at which the reference's curve may be evaluated
+-- the level of `found_station` at `minute` can be computed: `minute` less the minutes of the
+-- high-water offset is one of the minutes of the reference station's curve
 pub record IsEvaluable (found_station : FoundStation) (minute : ℤ) : Type 0 where
   pub from : found_station.span.begin ≤ℤ (minute -ℤ found_station.basis.high.add)
   pub until : (minute -ℤ found_station.basis.high.add) ≤ℤ found_station.span.end
@@ -75,8 +75,9 @@ pub record IsEvaluable (found_station : FoundStation) (minute : ℤ) : Type 0 wh
 abbrev pub AreEvaluable : FoundStation → Type 0
 AreEvaluable found_station = (minute : ℤ) → found_station.span_request.begin ≤ℤ minute → minute ≤ℤ found_station.span_request.end → IsEvaluable found_station minute
 
--- `found_station` has a highest water over its span: it was found for that purpose, so that its span has
--- a minute, and its high and low waters have the same offsets
+-- `found_station` has a highest water over its span: it was found for that purpose, so its span has
+-- at least one minute, and its high and low waters have the same offsets, so it has a level at each
+-- minute
 pub record HasPeak (found_station : FoundStation) : Type 0 where
   pub purpose : found_station.purpose ≡ Highest
   pub equal : IsTrue (is_equal found_station.basis)
@@ -96,13 +97,14 @@ pub record IsSiteList (book : Book) (span_request : SpanRequest) (site : Site) (
   pub begins : InZoneYears span_request.begin
   pub ends : InZoneYears span_request.end
 
--- the last argument has the expected station's events, or is the expected refusal, or a refusal because
--- memory ran out
+-- the last argument is Ok with the events of the expected station, or Err with the expected
+-- refusal, or with the refusal that memory ran out
 abbrev pub Lists : Book → SpanRequest → Result Site Refusal → Result FoundEvents Refusal → Type 0
 Lists book span_request expected (Ok listed) = (site : Site) × (expected ≡ Ok site) × IsSiteList book span_request site listed
 Lists book span_request expected (Err refusal) = Excused (refusal_is_out_of_memory refusal) expected refusal
 
--- the events are all events of the reference station's curves, over the minutes that determine the
--- events of the span
+-- the events are those of the cells of the reference station's curves, over the minutes whose
+-- events the offsets can move into the requested span, sorted by minute, then by kind, then by
+-- level
 abbrev pub AreReferences : FoundStation → List Event → Type 0
 AreReferences found_station events = events ≡ merged_of found_station.span.begin (tracks_of found_station.curve.book (site_of found_station) found_station.span_request)
