@@ -35,10 +35,10 @@ const BILLION: i128 = 1_000_000_000;
 const MOST_RATE: i128 = 40_000_000_000_000_000_000_000_000_000_000_000;
 
 /// Returns a bound on the change of the slope in a minute, outside the blends at new years:
-/// 4,147,200,000 (the total weight of a blend) multiplied by `year.far`, the bound by the year's
-/// constants alone. `year` has the four sums over the station's waves in one year. The slope is in
-/// the station's unit a minute, multiplied by 10^15 * 34,377,467,708 * 4,147,200,000
-/// (34,377,467,708 units of angle are a radian).
+/// 4,147,200,000 (the total weight of a blend) multiplied by `year.far`, which bounds the change of
+/// the slope by one year's constants. `year` has the four sums over the station's waves in this
+/// year. The slope is in the station's unit a minute, multiplied by
+/// 10^15 * 34,377,467,708 * 4,147,200,000 (34,377,467,708 units of angle are a radian).
 pub fn plain_slope_rate(year: &Sums) -> i128
     requires { AreWithinLimits year.now }
     ensures value { result ≡ plain_slope_rate year.now }
@@ -47,10 +47,10 @@ pub fn plain_slope_rate(year: &Sums) -> i128
 }
 
 /// Returns a bound on the change of the level in a minute, outside the blends at new years:
-/// 4,147,200,000 (the total weight of a blend) multiplied by `year.near`, the bound by the year's
-/// constants alone. `year` has the four sums over the station's waves in one year. The level is in
-/// billionths of a millionth of the station's unit, multiplied by 4,147,200,000. The bound is at
-/// most 10^27.
+/// 4,147,200,000 (the total weight of a blend) multiplied by `year.near`, which bounds the change
+/// of the level by one year's constants. `year` has the four sums over the station's waves in this
+/// year. The level is in billionths of a millionth of the station's unit, multiplied by
+/// 4,147,200,000. The bound is at most 10^27.
 pub fn plain_level_rate(year: &Sums) -> i128
     requires { AreWithinLimits year.now }
     ensures value { result ≡ plain_level_rate year.now }

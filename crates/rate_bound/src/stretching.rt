@@ -9,10 +9,10 @@ ghost use Rattle.rate_bound.specs.Workings.Cells.{AreNeeded};
 use station_curve::StationCurve;
 use year_blend::Stretch;
 
-/// Returns which years' constants determine the level of `station` at the minutes from `a` to `a +
-/// n`, both included: one year's if none of these minutes is less than an hour from a new year
-/// between two of the book's years, and otherwise those of the two years around that new year. `n`
-/// is at most `LONGEST_SPAN` (1,024).
+/// Returns which years' constants determine the level of `station` at the minutes from `a` to
+/// `a + n`, both included: one year's if none of these minutes is less than an hour from a new year
+/// between two of the book's years, and otherwise both years' around that new year. `n` is at most
+/// `LONGEST_SPAN` (1,024).
 #[inline(always)]
 pub fn stretch_of(station: &StationCurve, a: i64, n: u32) -> Stretch
     requires first { IsPredicted station.now a }

@@ -66,9 +66,9 @@ moved basis begin end =
     if is_equal basis then record { begin = begin -ℤ basis.high.add; end = end -ℤ basis.high.add }
     else widened_of basis begin end
 
--- the minutes of the reference station that a request for this purpose needs: for events, the minutes
--- whose events the offsets can move into the span; for levels and the highest water, the minutes of
--- `moved`
+-- the minutes of the reference station that a request for this purpose needs: for events, the
+-- minutes at which an event can be moved into the span by the offsets; for levels and the highest
+-- water, the span moved back by the offset (`moved`)
 abbrev pub reached : Purpose → Basis → ℤ → ℤ → Span
 reached Events basis begin end = widened_of basis begin end
 reached Levels basis begin end = moved basis begin end

@@ -58,7 +58,7 @@ pub fn list_station(
 
 /// Returns the events of the station `found_station` over the span of its request. `found_station`
 /// is a result of [`find_station`](crate::find_station) for [`Purpose::Events`], so its curve has
-/// all minutes whose events the offsets can move into the span.
+/// each minute at which an event can be moved into the span by the offsets.
 ///
 /// # Examples
 /// ```
@@ -120,10 +120,10 @@ fn shifted_events(
     }
 }
 
-/// Returns a merge of the events of the reference station of `found_station`, over the minutes
-/// whose events the station's offsets can move into the span of the request. It yields one event at
-/// a time, in listing order, and doesn't allocate. Its searches have returned none of their cells
-/// yet (`cells` is 0, and `all` counts them). If the station has no offsets, its events are the
+/// Returns a merge of the events of the reference station of `found_station`, over the minutes at
+/// which an event can be moved into the requested span by the offsets. It yields one event at a
+/// time, in listing order, and doesn't allocate. Its searches have returned none of their cells yet
+/// (`cells` is 0, and `all` counts them). If the station has no offsets, its events are the
 /// reference's. `found_station` is a result of [`find_station`](crate::find_station) for
 /// [`Purpose::Events`].
 pub fn merge_of<'a>(found_station: &'a FoundStation) -> Merge<TurnCurve<'a>, MarkCurve<'a>>
@@ -143,8 +143,8 @@ pub fn merge_of<'a>(found_station: &'a FoundStation) -> Merge<TurnCurve<'a>, Mar
 /// Returns the search for the high and low waters of the reference station of `found_station` (for
 /// a current, its greatest and least streams), from the first minute of its curve on (`at`). The
 /// search evaluates the curve at most once per cell, plus once (`most`). `found_station` was found
-/// for [`Purpose::Events`], so the curve has all minutes whose events the offsets can move into the
-/// requested span.
+/// for [`Purpose::Events`], so its curve has each minute at which an event can be moved into the
+/// requested span by the offsets.
 pub fn turn_search<'a>(found_station: &'a FoundStation) -> Search<TurnCurve<'a>>
     requires { found_station.now.purpose ≡ Purpose.Events }
     ensures at { result.at ≡ found_station.now.span.begin }
@@ -161,8 +161,8 @@ pub fn turn_search<'a>(found_station: &'a FoundStation) -> Search<TurnCurve<'a>>
 /// Returns the search for the slack waters of the reference station of `found_station`, from the
 /// first minute of its curve on (`at`), or `None` if the station isn't a current, or has different
 /// offsets for highs and lows and none for slack waters. The search evaluates the curve at most
-/// once per cell, plus once (`most`). `found_station` was found for [`Purpose::Events`], so the
-/// curve has all minutes whose events the offsets can move into the requested span.
+/// once per cell, plus once (`most`). `found_station` was found for [`Purpose::Events`], so its
+/// curve has each minute at which an event can be moved into the requested span by the offsets.
 pub fn slack_search<'a>(found_station: &'a FoundStation) -> Option<Search<MarkCurve<'a>>>
     requires { found_station.now.purpose ≡ Purpose.Events }
     ensures at { ForSome result (λ search. search.at ≡ found_station.now.span.begin) }
@@ -178,8 +178,8 @@ pub fn slack_search<'a>(found_station: &'a FoundStation) -> Option<Search<MarkCu
 /// Returns the search for the minutes of the reference station at which the level of
 /// `found_station` crosses the mark of its request, from the first minute of its curve on (`at`),
 /// or `None` if the request has no mark. The search evaluates the curve at most once per cell, plus
-/// once (`most`). `found_station` was found for [`Purpose::Events`], so the curve has all minutes
-/// whose events the offsets can move into the requested span.
+/// once (`most`). `found_station` was found for [`Purpose::Events`], so its curve has each minute
+/// at which an event can be moved into the requested span by the offsets.
 pub fn mark_search<'a>(found_station: &'a FoundStation) -> Option<Search<MarkCurve<'a>>>
     requires { found_station.now.purpose ≡ Purpose.Events }
     ensures at { ForSome result (λ search. search.at ≡ found_station.now.span.begin) }

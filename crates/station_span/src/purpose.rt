@@ -1,8 +1,9 @@
 //! The minutes of a reference station that an answer needs.
 
 /// The purpose of a request about a station. It determines the minutes of the reference station
-/// that the answer needs: for events, all whose events the offsets can move into the requested
-/// span; for levels and the highest water, those that the offset moves into it.
+/// that the answer needs: for events, each minute at which an event can be moved into the requested
+/// span by the offsets; for levels and the highest water, each minute that the offset moves into
+/// it.
 #[derive(Clone, Copy)]
 pub enum Purpose {
     /// The request is for events: it needs the reference's minutes whose events the station's offsets

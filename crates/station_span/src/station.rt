@@ -42,8 +42,8 @@ const SPAN_LIMIT: i64 = 5_270_400;
 
 /// Returns the station that `request` names, one of `stations`, with the span and mark of
 /// `request`, and with the curve of its reference station. The curve covers the minutes that
-/// `purpose` needs: for events, all whose events the offsets can move into the span; for levels and
-/// the highest water, those that the offset moves into it.
+/// `purpose` needs: for events, each minute at which an event can be moved into the span by the
+/// offsets; for levels and the highest water, each minute that the offset moves into it.
 ///
 /// # Errors
 /// The first [`Refusal`] in this order: the station isn't found, it is a hydraulic current, its span is

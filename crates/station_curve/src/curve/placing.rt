@@ -18,8 +18,8 @@ impl StationCurve {
 
     /// Returns which years' constants determine the level at the minutes from `m` to `m + n`, both
     /// included: one year's if each of these minutes is at least an hour from every new year
-    /// between two of the book's years, and otherwise those of the two years around that new year.
-    /// `m` and `m + n` are minutes of the curve, and `n` is at most `LONGEST_SPAN` (1,024).
+    /// between two of the book's years, and otherwise both years' around that new year. `m` and
+    /// `m + n` are minutes of the curve, and `n` is at most `LONGEST_SPAN` (1,024).
     #[inline(always)]
     pub fn stretch(&self, m: i64, n: u32) -> Stretch
         requires first { IsPredicted self.now m }

@@ -103,8 +103,8 @@ abbrev pub Lists : Book → SpanRequest → Result Site Refusal → Result Found
 Lists book span_request expected (Ok listed) = (site : Site) × (expected ≡ Ok site) × IsSiteList book span_request site listed
 Lists book span_request expected (Err refusal) = Excused (refusal_is_out_of_memory refusal) expected refusal
 
--- the events are those of the cells of the reference station's curves, over the minutes whose
--- events the offsets can move into the requested span, sorted by minute, then by kind, then by
--- level
+-- the events are all events in the cells of the reference station's curves, over the minutes at
+-- which an event can be moved into the requested span by the offsets, sorted by minute, then by
+-- kind, then by level
 abbrev pub AreReferences : FoundStation → List Event → Type 0
 AreReferences found_station events = events ≡ merged_of found_station.span.begin (tracks_of found_station.curve.book (site_of found_station) found_station.span_request)
