@@ -47,10 +47,10 @@ pub fn worked_limits()
         ≡ Err Hydraulic }
 {}
 
-/// Proves which of the years 1999 (index 0) to 2001 (index 2) a curve needs: those at most an hour from
-/// its minutes. A curve from 01:00 UTC on 1 January 2000 to 23:00 on 31 December 2000 needs all three.
-/// If it begins at 01:01 it doesn't need 1999, and has no waves for it; if it ends at 22:59 it
-/// doesn't need 2001.
+/// Proves which of the years 1999 (index 0) to 2001 (index 2) a curve needs: each year at most an
+/// hour from its minutes. A curve from 01:00 UTC on 1 January 2000 to 23:00 on 31 December 2000
+/// needs all three. If it begins at 01:01 it doesn't need 1999, and has no waves for this year; if
+/// it ends at 22:59 it doesn't need 2001.
 pub fn worked_reach()
     ensures hour_after { is_touched pier_book (pos 15778140) (pos 16305060) 0 ≡ true }
     ensures between { is_touched pier_book (pos 15778140) (pos 16305060) 1 ≡ true }
@@ -75,14 +75,15 @@ pub fn worked_constants()
     ensures a_minute_later { phase_of harbour_book harbour 0 (pos 15778381) 1 ≡ 36300000000 }
 {}
 
-/// Proves levels that another program computed; times are UTC. The tide of `pier`, of 12 hours with an
-/// amplitude of one foot, is at 0.999962 feet at 11:59 on 10 January 2000. If it is 60 degrees ahead
-/// from 2000 on (`shifted_book`), its level is 0.5 feet at 22:00 and 0.866025 at 23:00 on 31 December
-/// 1999, 0.75 at the new year (the mean of both years' levels), 0 at 01:00 and -0.5 at 02:00; 23:01 is
-/// the first minute of the blend. The other station, `harbour`, is at 3.004334 feet at 05:00 on 1
-/// January 2000, in the blend at 00:20 on 1 January 2001, and at 1.303827 feet at 00:00 on 1 March
-/// 2001. `predicted_millionths` is in millionths of a foot; `predicted_level` is in billionths of a
-/// millionth of a foot, multiplied by 4,147,200,000 (the total weight of a blend).
+/// Proves levels that another program computed; times are UTC. The tide of `pier`, of 12 hours with
+/// an amplitude of one foot, is at 0.999962 feet at 11:59 on 10 January 2000. If it is 60 degrees
+/// ahead from 2000 on (`shifted_book`), its level is 0.5 feet at 22:00 and 0.866025 at 23:00 on 31
+/// December 1999, 0.75 at the new year (the mean of both years' levels), 0 at 01:00 and -0.5 at
+/// 02:00; 23:01 is the first minute of the blend. The other station, `harbour`, is at 3.004334 feet
+/// at 05:00 on 1 January 2000, at 1.902766 at 00:20 on 1 January 2001 (in the blend), and at
+/// 1.303827 at 00:00 on 1 March 2001. `predicted_millionths` is in millionths of a foot;
+/// `predicted_level` is in billionths of a millionth of a foot, multiplied by 4,147,200,000 (the
+/// total weight of a blend).
 pub fn worked_levels()
     ensures noon { predicted_millionths pier_book pier (pos 15791759) ≡ pos 999962 }
     ensures two_hours_before { predicted_millionths shifted_book pier (pos 15777960) ≡ pos 500000 }
@@ -99,11 +100,11 @@ pub fn worked_levels()
 /// Proves slopes that another program computed; times are UTC. The tide of `pier`, highest at noon,
 /// rises at 11:59 on 10 January 2000, and its slope is 0 at 12:00. If it is 60 degrees ahead from
 /// 2000 on (`shifted_book`), it still rises at 23:27 on 31 December 1999 and falls at 23:28, both
-/// in the blend at the new year. At the other station, `harbour`, the level falls at 05:00 on 1
-/// January 2000 and at 00:20 on 1 January 2001 (in the blend), and rises at 00:00 on 1 March 2001.
-/// Slopes are in feet a minute, multiplied by 10^15 * 34,377,467,708 * 4,147,200,000
-/// (34,377,467,708 units of angle are a radian, and 4,147,200,000 is the total weight of a blend);
-/// `negsuc n` is -(n + 1).
+/// in the blend at the new year. At the other station, `harbour`, the slope is -0.0129 feet a
+/// minute at 05:00 on 1 January 2000, -0.0230 at 00:20 on 1 January 2001 (in the blend), and 0.0056
+/// at 00:00 on 1 March 2001. Slopes are in feet a minute, multiplied by
+/// 10^15 * 34,377,467,708 * 4,147,200,000 (34,377,467,708 units of angle are a radian, and
+/// 4,147,200,000 is the total weight of a blend); `negsuc n` is -(n + 1).
 pub fn worked_slopes()
     ensures before_noon { predicted_slope pier_book pier (pos 15791759) ≡ pos 10857205785600000000000000000000 }
     ensures noon { predicted_slope pier_book pier (pos 15791760) ≡ pos 0 }
@@ -164,8 +165,8 @@ pub fn worked_approximate_slopes()
 /// Proves bounds on the errors of approximate levels and slopes at all minutes: 0.0004 feet and
 /// 0.0000036 feet a minute for `pier`, with one wave of one foot; 0.00065 feet and 0.0000056 feet a
 /// minute for `harbour`, with two waves, by the amplitudes of 2000, which are larger than in 2001.
-/// In the clauses, level errors are in feet times 10^15 * 4,147,200,000 (the total weight of a
-/// blend), and slope errors are in feet a minute, multiplied by
+/// In the clauses, level errors are in feet, multiplied by 10^15 * 4,147,200,000 (the total weight
+/// of a blend), and slope errors are in feet a minute, multiplied by
 /// 10^15 * 34,377,467,708 * 4,147,200,000 (34,377,467,708 units of angle are a radian).
 pub fn worked_errors()
     ensures pier_level { level_error_of (prediction_of pier_book pier) ≡ 1658880000000000000000 }
