@@ -8,7 +8,7 @@ use Rattle.curve_law.specs.Cover.{keeps_side, is_quiet}
 use Rattle.curve_law.specs.Workings.Approximate.{IsFar}
 use Rattle.curve_law.proofs.QuietLemmas.{drift_up, drift_down, quiet_cell, is_quiet-length, is_quiet-rate, begin-minute, end-minute, begin-small, end-small}
 
--- a sum of approximate values is within the sum of the errors
+-- the sum of two approximate values differs from the sum of the values by at most twice the error
 pub sum-approximate : (approximate approximate_end v w : ℤ) (error : ℕ) → unsigned_abs (approximate -ℤ v) ≤ error
     → unsigned_abs (approximate_end -ℤ w) ≤ error
     → unsigned_abs ((approximate +ℤ approximate_end) -ℤ (v +ℤ w)) ≤ 2 * error
@@ -52,17 +52,18 @@ far-quiet c a n rate far lawful span two most is sum =
     ∙ far-rate (c.track.value a) (c.track.value (a +ℤ pos n)) rate n far (change-up c a rate n some law)
     (change-down c a rate n some law) sum
 
--- the side of all values within the error is the side of the value
+-- if all values that an approximation allows are on one side of 0, the exact value is on this side
 pub decided-side : (approximate e v : ℤ) (error : ℕ) (side : Bool) → e ≡ pos error
     → ((value : ℤ) → unsigned_abs (approximate -ℤ value) ≤ unsigned_abs e → int_lt (pos 0) value ≡ side)
     → unsigned_abs (approximate -ℤ v) ≤ error → int_lt (pos 0) v ≡ side
 decided-side approximate e v error side is decided close = decided v (rw is close)
 
--- too few minutes
+-- fewer than 2 minutes are no quiet cell
 pub too_short : (c : CurveSpec) (a : ℤ) (n : ℕ) → n < 2 → is_quiet c a n ≡ false
 too_short c a n few = sym (is_quiet-length c a n (inl few))
 
--- approximate values whose sum decides
+-- if the approximate sum of both end values decides how each sum within twice the error compares
+-- with `most`, it decides whether the minutes can be one quiet cell
 pub decided-far :
     (c : CurveSpec) (a : ℤ) (n : ℕ) (rate approximate approximate_end most e : ℤ) (error : ℕ) (far : Bool)
     → IsLawful c → IsSpan c a n → 2 ≤ n → n ≤ MOST_MINUTES → Some rate ≡ c.rate a n
@@ -75,13 +76,13 @@ decided-far c a n rate approximate approximate_end most e error far lawful span 
     (rw is_e (sum-approximate approximate approximate_end _ _ error close end_close)) in
     far-quiet c a n rate far lawful span two few is (rw is_most at sum)
 
--- the approximate value at a minute is within the error
+-- the approximate value at a minute of the curve differs from the value by at most the error
 pub minute-close : (c : CurveSpec) (approximate : ℤ → ℤ) (error : ℕ) (m v : ℤ)
     → ((m : ℤ) → IsMinute c m → IsApproximateValue c error m (approximate m)) → IsMinute c m → v ≡ approximate m
     → IsApproximateValue c error m v
 minute-close c approximate error m v close minute is = rw is (close m minute)
 
--- the approximate values at both ends of a span are within the error
+-- the approximate value at the first minute of a span differs from the value by at most the error
 pub begin-close : (c : CurveSpec) (approximate : ℤ → ℤ) (error : ℕ) (a : ℤ) (n : ℕ) (v : ℤ)
     → ((m : ℤ) → IsMinute c m → IsApproximateValue c error m (approximate m)) → IsSpan c a n → v ≡ approximate a
     → IsApproximateValue c error a v

@@ -14,7 +14,7 @@ ghost use Rattle.decimal_text.specs.declared.limits.TheConstants.{MOST_BYTES};
 pub fn reads_its_fraction()
     // A number that is read is the fraction that the text writes.
     ensures read { ReadsItsFraction }
-    // If it refuses a text as too fine, no number of steps is the fraction that the text writes.
+    // If a text is refused as too fine, no number of steps is the fraction that it writes.
     ensures too_fine { TooFineIsNoFraction }
 {}
 
@@ -28,17 +28,17 @@ pub fn worked_readings()
     ensures point_first { read_of (codes ".5") 6 ≡ Ok (pos 500000) }
     // A `+` is allowed, and no digit is needed after the point.
     ensures point_last { read_of (codes "+5.") 1 ≡ Ok (pos 50) }
-    // A zero after the allowed decimal places is read.
+    // With two decimal places, a third digit after the point may be 0.
     ensures zero_past_places { read_of (codes "1.230") 2 ≡ Ok (pos 123) }
-    // A digit other than 0 after them is an error.
+    // With two decimal places, a third digit after the point other than 0 is too fine.
     ensures too_fine { read_of (codes "1.234") 2 ≡ Err TooFine }
     // An empty text has no digit.
     ensures empty { read_of [] 2 ≡ Err BadForm }
     // A point is not a decimal.
     ensures point_alone { read_of (codes ".") 2 ≡ Err BadForm }
-    // 18 digits before the point are allowed.
+    // 18 digits before the point are allowed, zeros included.
     ensures most_digits { read_of (codes "012345678901234567") 0 ≡ Ok (pos 12345678901234567) }
-    // 19 digits aren't, not even if the first is 0.
+    // 19 digits before the point are too long, also if the first is 0.
     ensures too_long { read_of (codes "0123456789012345678") 0 ≡ Err TooLong }
     // A byte that isn't a digit is reported before the length.
     ensures bad_before_long { read_of (codes "0123456789012345678x") 0 ≡ Err BadForm }
@@ -48,7 +48,7 @@ pub fn worked_readings()
     ensures two_signs { read_of (codes "+-5") 2 ≡ Err BadForm }
     // Two points are a bad form.
     ensures two_points { read_of (codes "1.2.3") 2 ≡ Err BadForm }
-    // The number may exceed 64 bits.
+    // With 18 digits before the point and nine decimal places, the result exceeds 64 bits.
     ensures greatest { read_of (codes "999999999999999999.9") 9 ≡ Ok (pos 999999999999999999900000000) }
 {}
 
@@ -60,7 +60,7 @@ pub fn worked_digits()
     ensures zeros_first { digits_of 4 (codes "0019") ≡ Some 19 }
     // An empty text isn't a number.
     ensures none { digits_of 4 [] ≡ None }
-    // A text with more than `most` digits is refused.
+    // Five digits aren't read if four are allowed, also if the first is 0.
     ensures one_more { digits_of 4 (codes "00019") ≡ None }
     // A sign is refused.
     ensures signed { digits_of 4 (codes "+19") ≡ None }
@@ -73,15 +73,15 @@ pub fn worked_digits()
 /// Proves examples of decimals that are written: the number of steps of `1 / 10^places`, `places`,
 /// and the text.
 pub fn worked_writings()
-    // A value between -1 and 1 has the digit 0 before the point.
+    // -5 hundredths are `-0.05`: there is a digit before the point.
     ensures below_one { write_of (negsuc 4) 2 ≡ codes "-0.05" }
-    // Zero has no sign.
+    // 0 hundredths are `0.00`, without a sign.
     ensures zero { write_of (pos 0) 2 ≡ codes "0.00" }
-    // Without decimal places there is no point.
+    // -7 with no decimal places is `-7`, without a point.
     ensures no_places { write_of (negsuc 6) 0 ≡ codes "-7" }
-    // Six decimal places are all written.
+    // 3,004,334 millionths are `3.004334`, with six digits after the point.
     ensures millionths { write_of (pos 3004334) 6 ≡ codes "3.004334" }
-    // Zeros at the end are written.
+    // -100 hundredths are `-1.00`: zeros at the end are written.
     ensures zeros_behind { write_of (negsuc 99) 2 ≡ codes "-1.00" }
 {}
 

@@ -17,7 +17,7 @@ use Rattle.harmonics_text.specs.declared.fault.Why.TheVariants.{
   LineTooLong,
 }
 
--- the number of a reason in docs/FORMATS.md, from 1 to 13
+-- the number of a reason in docs/CERTIFICATES.md, from 1 to 13
 abbrev pub fault_number : Why → ℕ
 fault_number BadCount = 1
 fault_number BadName = 2

@@ -15,7 +15,7 @@ pub enum LineFault {
 }
 
 /// The reason why a line of a harmonics file is bad, or why the file is incomplete. The file format
-/// numbers these reasons from 1 to 13 in this order (docs/FORMATS.md).
+/// numbers these reasons from 1 to 13 in this order (docs/CERTIFICATES.md).
 #[derive(Clone, Copy, Debug, PartialEq, Eq)]
 pub enum Why {
     /// The line with the number of constituents, or with the number of years of a table, isn't a
@@ -63,7 +63,7 @@ pub enum Why {
 impl Why {
     ghost use Rattle.harmonics_text.specs.Whys.{fault_number, text_of};
 
-    /// Returns the number of this reason in docs/FORMATS.md, from 1 to 13.
+    /// Returns the number of this reason in docs/CERTIFICATES.md, from 1 to 13.
     pub fn number(self) -> u32
         ensures { result ≡ fault_number self }
     {

@@ -41,7 +41,7 @@ pub fn worked_lines()
         ≡ record { number = 2; text = codes " #a" } ∷ record { number = 4; text = codes "\r\r" } ∷ [] }
     // Spaces and tabs separate tokens.
     ensures tokens { tokens (codes " S2 \t30 ") ≡ codes "S2" ∷ codes "30" ∷ [] }
-    // `12` is a count, also with a space after it.
+    // `12` with a space after it is the count 12.
     ensures count { count_of (codes "12 ") ≡ Ok 12 }
     // Two numbers on the line are a bad count.
     ensures two_counts { count_of (codes "1 2") ≡ Err Why.BadCount }
@@ -68,14 +68,15 @@ pub fn worked_lines()
 pub fn worked_files()
     // The small file has the book `pier_book`.
     ensures pier { book_of (file_of pier_lines) ≡ Ok pier_book }
-    // Without its last line, the file of 16 lines ends too early, at line 16.
+    // The small file without its last line, the sixteenth, ends too early at line 16.
     ensures cut_short { book_of (file_of (take 15 pier_lines)) ≡ Err (record { line = 16; why = Why.CutShort }) }
-    // Each change of a line leads to the fault listed with it.
+    // Each copy of the small file with one line changed has the fault that is listed with the
+    // change.
     ensures changed { map (λ c. book_of (pier_with c)) changes ≡ map (λ c. Err (record { line = c.at; why = c.why })) changes }
     // A file without a byte ends too early at line 1.
     ensures empty { book_of [] ≡ Err (record { line = 1; why = Why.CutShort }) }
-    // Comments and blank lines count as lines: the eighth decimal place of a speed is found in line
-    // 4.
+    // Comments and blank lines are counted: a speed with an eighth decimal place other than 0 is
+    // the fault of line 4.
     ensures too_fine { book_of (codes "# a comment\n1\n\nS2 30.00000001\r\n") ≡ Err (record { line = 4; why = Why.TooFine }) }
 {}
 
@@ -87,19 +88,19 @@ pub fn worked_pieces()
     ensures begun { fault_so_far (codes "# Pier test\n1") ≡ None }
     // One byte follows the last LF.
     ensures one_byte { pending_length (codes "# Pier test\n1") ≡ 1 }
-    // A bad line without its LF isn't a fault yet.
+    // A line with a bad number, and its CR, is no fault before its LF.
     ensures not_ended { fault_so_far (codes "#\n1\nS2 30,0\r") ≡ None }
-    // With its LF, it is.
+    // A line with a bad number, the third, is a fault once its LF was read.
     ensures bad { fault_so_far (codes "#\n1\nS2 30,0\r\n1999") ≡ Some (record { line = 3; why = Why.BadNumber }) }
-    // A CR counts as a byte of the line.
+    // A CR counts as a byte of a line that has not ended.
     ensures with_its_cr { pending_length (codes "1\r") ≡ 2 }
-    // The bytes of a comment aren't counted.
+    // The bytes after the last LF don't count if they are a comment.
     ensures in_comment { pending_length (codes "1\n# 2") ≡ 0 }
-    // A line of 4,096 spaces is no fault.
+    // 4,096 spaces without an LF are no fault.
     ensures long { fault_so_far (replicate 4096 32) ≡ None }
-    // One more byte is a fault before the line ends.
+    // 4,097 spaces are a fault, before the LF is read.
     ensures too_long { fault_so_far (replicate 4097 32) ≡ Some (record { line = 1; why = Why.LineTooLong }) }
-    // A comment may have more bytes.
+    // A comment of 4,098 bytes is no fault.
     ensures long_comment { fault_so_far (35 ∷ replicate 4097 32) ≡ None }
     // The small file has no fault.
     ensures complete { fault_so_far (file_of pier_lines) ≡ None }

@@ -1,4 +1,5 @@
--- The cells of a span by the rule cover it, and those of the highest water are accepted.
+-- The cells made for a span by halving have as many minutes as the span, and with them the check
+-- accepts the span's highest water.
 use Rattle.std.proofs.Common.{◌≡◌, ℕ, suc, ◌+◌, ◌≤◌, ◌==◌, ℤ, pos, ◌+ℤ◌, ◌≤ℤ◌, ◌<ℤ◌, true, false, nat_le, Bool, List, [], ◌∷◌, ◌++◌, length, map, refl, sym, subst, arith}
 use Rattle.std.specs.Ordering.{int_eq}
 use Rattle.std.proofs.lemmas.Bool.Decides.{nat_tests, Decides-int_eq, Decides-eqb}
@@ -102,6 +103,7 @@ cover-accepted c at value a n peak =
     let inside = inside-true at a n peak.from peak.before in
     rw (whole, inside) (cover-right c at value a n peak)
 
+-- the highest water that an evaluation of each minute finds, with its cells, is accepted
 pub peak_of-accepted : (c : CurveSpec) (a : ℤ) (n : ℕ) → 1 ≤ n → peak_verdict c a n (peak_of c a n) ≡ Accepted
 unfolding peak_of
 peak_of-accepted c a n some = cover-accepted c (highest_minute c a n) (c.track.value (highest_minute c a n)) a n (minute-highest c a n some)

@@ -19,6 +19,7 @@ cover-same : (c : CurveSpec) (first last at value a : ℤ) (n : ℕ)
 unfolding peak_cover is_under
 cover-same c first last at value a n = refl
 
+-- the highest water and its cells don't depend on the curve's first and last minute
 pub peak_of-same : (c : CurveSpec) (first last a : ℤ) (n : ℕ) → peak_of (at_minutes first last c) a n ≡ peak_of c a n
 unfolding peak_of
 peak_of-same c first last a n =
@@ -41,6 +42,7 @@ cells_verdict-same c first last at value a number (cell ∷ cells) =
       cells_verdict-same c first last at value (a +ℤ pos (minutes_of cell)) (suc number) cells,
     ) refl
 
+-- the verdict on a claimed highest water doesn't depend on the curve's first and last minute
 pub verdict-same : (c : CurveSpec) (first last a : ℤ) (n : ℕ) (peak : Peak)
     → peak_verdict (at_minutes first last c) a n peak ≡ peak_verdict c a n peak
 unfolding peak_verdict

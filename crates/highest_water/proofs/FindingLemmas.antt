@@ -1,4 +1,4 @@
--- The highest point so far, cell by cell.
+-- The highest point known until now, after one more cell of the search.
 use Rattle.std.proofs.Common.{◌≡◌, ℕ, ◌+◌, ◌*◌, ◌≤◌, ◌<◌, ◌^◌, min, ℤ, pos, ◌+ℤ◌, ◌-ℤ◌, ◌≤ℤ◌, ◌<ℤ◌, int_lt, unsigned_abs, true, false, List, length, refl, sym, ap, ◌∙◌, arith}
 use Rattle.std.proofs.lemmas.Int.{ints}
 use Rattle.curve_law.specs.declared.point.Point.{Point}
@@ -17,12 +17,12 @@ use Rattle.highest_water.proofs.UnderLemmas.{int_lt-true, under-two, under-below
 use Rattle.highest_water.proofs.HighestLemmas.{int_lt-false, highest-one, minute-highest}
 use Rattle.highest_water.proofs.VerdictLemmas.{below-append, below-none, below-one, below-at}
 
--- a point at which the curve was evaluated
+-- the point that an evaluation in the span returns is a point of the curve in the span
 pub asked-point : (c : CurveSpec) (begin end m : ℤ) (p : Point) → begin ≤ℤ m → m <ℤ end
     → p ≡ record { minute = m; value = c.track.value m } → IsPoint c begin end p
 asked-point c begin end m p from before is = rw is (record { from = from; before = before; value = refl })
 
--- a minute of a span of a lawful curve
+-- a minute of a span within the curve is a minute of the curve
 pub minute-between : (c : CurveSpec) (begin end m : ℤ) → c.first ≤ℤ begin → end ≤ℤ c.last → begin ≤ℤ m → m ≤ℤ end → IsMinute c m
 minute-between c begin end m first last from to = record { first = omega (arith, ints); last = omega (arith, ints) }
 
@@ -41,7 +41,7 @@ int_le-same x y is = omega (arith, ints)
 pub int_le-more : (x y z : ℤ) (n : ℕ) → x ≤ℤ y → z ≡ y +ℤ pos n → x ≤ℤ z
 int_le-more x y z n from is = omega (arith, ints)
 
--- a walk goes n minutes on
+-- n minutes further, n minutes fewer remain
 pub walk-fewer : (a b end : ℤ) (n : ℕ) → b ≡ a +ℤ pos n → b ≤ℤ end → minutes_to b end + n ≡ minutes_to a end
 walk-fewer a b end n is within = omega (arith, ints)
 
@@ -93,7 +93,7 @@ pub begin-point : (c : CurveSpec) (begin end : ℤ) (p : Point) → begin <ℤ e
     → p ≡ record { minute = begin; value = c.track.value begin } → IsPoint c begin end p
 begin-point c begin end p some is = asked-point c begin end begin p (omega (arith, ints)) some is
 
--- the higher of two points
+-- the higher of two points of the span is a point of the span
 pub higher-point : (c : CurveSpec) (begin end : ℤ) (h p : Point) → IsPoint c begin end h → IsPoint c begin end p
     → IsPoint c begin end (higher_of h p)
 higher-point c begin end h p first second = by_test (is_higher h.minute h.value p.minute p.value)
@@ -128,7 +128,7 @@ below-higher c at value m v begin end h below = record {
       at value m v k (c.track.value k) h (below.greatest k from before) (below.first k from before) earlier;
 }
 
--- one more minute
+-- the highest point until now, after one more minute
 higher-so_far : (c : CurveSpec) (begin end to : ℤ) (h p : Point) → IsHighestSoFar c begin end to h → begin ≤ℤ to → to
     <ℤ end → p.minute ≡ to → p.value ≡ c.track.value p.minute → IsHighestSoFar c begin end (to +ℤ pos 1) (higher_of h p)
 higher-so_far c begin end to h p so_far from before at value =
@@ -147,7 +147,7 @@ higher-so_far c begin end to h p so_far from before at value =
       below = below-append c h.minute h.value begin to (to +ℤ pos 1) so_far.below (below-one c h.minute h.value to low);
     }))
 
--- one more cell
+-- the highest point until now, after one more cell
 pub cell-so_far : (c : CurveSpec) (begin end to : ℤ) (h p : Point) (cell : PeakCell) → IsLawful c → c.first ≤ℤ begin
     → end ≤ℤ c.last → IsHighestSoFar c begin end to h → begin ≤ℤ to → p.minute ≡ to → p.value ≡ c.track.value p.minute
     → IsRight c h to cell → (to +ℤ pos (minutes_of cell)) ≤ℤ end
@@ -160,7 +160,7 @@ cell-so_far c begin end to h p (Under n) lawful first last so_far from at value 
 cell-so_far c begin end to h p Single lawful first last so_far from at value right within =
     higher-so_far c begin end to h p so_far from (omega (arith, ints)) at value
 
--- all minutes
+-- the highest point until now is the highest water if no minute remains
 pub all-so_far : (c : CurveSpec) (begin end to : ℤ) (h : Point) → to ≡ end → IsHighestSoFar c begin end to h
     → IsHighest c begin end h.minute h.value
 all-so_far c begin end to h all so_far =
@@ -178,7 +178,7 @@ pub right-some : (c : CurveSpec) (h : Point) (a : ℤ) (cell : PeakCell) → IsR
 right-some c h a (Under n) right = let two = under-two c h.minute h.value a n right in omega arith
 right-some c h a Single right = omega arith
 
--- the value of a point, and that of the highest water, are in range
+-- the value of a point of a lawful curve is below 10^37 in size
 pub point-small : (c : CurveSpec) (begin end : ℤ) (p : Point) → IsLawful c → c.first ≤ℤ begin → end ≤ℤ c.last
     → IsPoint c begin end p → unsigned_abs p.value < 10 ^ 37
 point-small c begin end p lawful first last point =
@@ -186,6 +186,7 @@ point-small c begin end p lawful first last point =
     let before = point.before in
     rw point.value (lawful.values p.minute (record { first = omega (arith, ints); last = omega (arith, ints) }))
 
+-- the value of the highest water of a lawful curve is below 10^37 in size
 pub highest-small : (c : CurveSpec) (begin end at value : ℤ) → IsLawful c → c.first ≤ℤ begin → end ≤ℤ c.last
     → IsHighest c begin end at value → unsigned_abs value < 10 ^ 37
 highest-small c begin end at value lawful first last peak =
@@ -193,7 +194,8 @@ highest-small c begin end at value lawful first last peak =
     let before = peak.before in
     rw (← peak.has) (lawful.values at (record { first = omega (arith, ints); last = omega (arith, ints) }))
 
--- the highest water with its cells is that of an evaluation of each minute
+-- a highest water with the cells made for it is the highest water that an evaluation of each minute
+-- finds, with its cells
 pub highest-peak_of : (c : CurveSpec) (begin end at value : ℤ) (cells : List PeakCell) → IsHighest c begin end at value
     → cells ≡ peak_cover c at value begin (unsigned_abs (end -ℤ begin))
     → record { at = at; value = value; cells = cells } ≡ peak_of c begin (unsigned_abs (end -ℤ begin))
@@ -206,7 +208,7 @@ highest-peak_of c begin end at value cells peak is =
     let one = highest-one c begin end at value _ _ peak looked in
     rw (is, one.1, one.0) refl
 
--- the minute and the value of the highest water are those of an evaluation of each minute
+-- a highest water has the minute and the value that an evaluation of each minute finds
 pub highest-is : (c : CurveSpec) (begin end at value : ℤ) → IsHighest c begin end at value
     → (at ≡ (peak_of c begin (unsigned_abs (end -ℤ begin))).at) × (value ≡ (peak_of c begin (unsigned_abs (end -ℤ begin))).value)
 highest-is c begin end at value peak =

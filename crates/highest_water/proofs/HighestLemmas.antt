@@ -21,6 +21,7 @@ one_minute c begin end at value other_at other peak another less =
 same_or : (x y : ℤ) → (x <ℤ y → ⊥) → (y <ℤ x → ⊥) → x ≡ y
 same_or x y less more = grind (arith, ints)
 
+-- two highest waters of a span are the same
 pub highest-one : (c : CurveSpec) (begin end at value other_at other : ℤ) → IsHighest c begin end at value
     → IsHighest c begin end other_at other → (at ≡ other_at) × (value ≡ other)
 highest-one c begin end at value other_at other peak another =

@@ -99,6 +99,7 @@ pub under-two : (c : CurveSpec) (at value a : ℤ) (n : ℕ) → is_under c at v
 unfolding is_under
 under-two c at value a n under = grind (arith, nat_tests)
 
+-- a cell under a point has at most 1,024 minutes
 pub under-few : (c : CurveSpec) (at value a : ℤ) (n : ℕ) → is_under c at value a n ≡ true → n ≤ MOST_MINUTES
 unfolding is_under
 under-few c at value a n under = grind (arith, nat_tests)

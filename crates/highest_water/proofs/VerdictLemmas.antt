@@ -19,6 +19,7 @@ use Rattle.highest_water.specs.Workings.Below.{AreBelow}
 use Rattle.highest_water.proofs.UnderLemmas.{int_lt-true, int_le-true, under-other, under-below}
 use Rattle.highest_water.proofs.HighestLemmas.{int_lt-false, highest-one, minute-highest}
 
+-- if the first fault of two verdicts is Accepted, both are
 pub both_accepted : (v w : PeakVerdict) → or_next v w ≡ Accepted → (v ≡ Accepted) × (w ≡ Accepted)
 both_accepted (WrongLength covered wanted) w h = cc
 both_accepted Outside w h = cc

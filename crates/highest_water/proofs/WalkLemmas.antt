@@ -1,4 +1,4 @@
--- The cells ahead of a walk are those of the pieces ahead.
+-- The cells that a walk has still to reach are the cells of the pieces ahead.
 use Rattle.std.proofs.Common.{◌≡◌, ℕ, ◌+◌, ◌≤◌, ◌<◌, ℤ, pos, ◌+ℤ◌, ◌≤ℤ◌, true, nat_le, List, [], ◌∷◌, ◌++◌, length, length-append, append_assoc, map, None, refl, sym, ap, arith, ◌∙◌}
 use Rattle.std.proofs.lemmas.Int.{ints}
 use Rattle.std.proofs.lemmas.List.{length-map, append-nil}

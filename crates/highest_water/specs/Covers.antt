@@ -25,36 +25,36 @@ all_minutes (cell ∷ cells) = minutes_of cell + all_minutes cells
 abbrev pub twice_most : ℤ → ℕ → ℤ → ℤ → ℤ
 twice_most rate n v w = v +ℤ w +ℤ (rate *ℤ pos n)
 
--- `stays_below rate n v w value`: true if each value between the values v and w, n minutes apart,
--- is less than `value` by the bound `twice_most`; false if the rate is None
+-- `stays_below rate n v w value`: true if `twice_most rate n v w` is less than 2 * `value`, so that
+-- a value between v and w, n minutes apart, can't reach `value`; false if the rate is None
 unfoldable pub stays_below : Option ℤ → ℕ → ℤ → ℤ → ℤ → Bool
 stays_below None n v w value = false
 stays_below (Some rate) n v w value = int_lt (twice_most rate n v w) (pos 2 *ℤ value)
 
--- `stays_within rate n v w value`: true if each value between the values v and w, n minutes apart,
--- is at most `value` by the bound `twice_most`; false if the rate is None
+-- `stays_within rate n v w value`: true if `twice_most rate n v w` is at most 2 * `value`, so that
+-- a value between v and w, n minutes apart, can't exceed `value`; false if the rate is None
 unfoldable pub stays_within : Option ℤ → ℕ → ℤ → ℤ → ℤ → Bool
 stays_within None n v w value = false
 stays_within (Some rate) n v w value = int_le (twice_most rate n v w) (pos 2 *ℤ value)
 
 -- `ends_below c at value a n`: true if the n minutes from minute `a` on are all before the minute
--- `at`, and by the curve's rate (a bound on its change in a minute) their values are all less than
+-- `at`, and by the curve's rate (a bound on its change in a minute) their values can't reach
 -- `value`
 abbrev pub ends_below : CurveSpec → ℤ → ℤ → ℤ → ℕ → Bool
 ends_below c at value a n =
     int_le (a +ℤ pos n) at && stays_below (c.rate a n) n (c.track.value a) (c.track.value (a +ℤ pos n)) value
 
 -- `begins_within c at value a n`: true if the n minutes from minute `a` on are all after the minute
--- `at`, and by the curve's rate (a bound on its change in a minute) their values are all at most
+-- `at`, and by the curve's rate (a bound on its change in a minute) their values can't exceed
 -- `value`
 abbrev pub begins_within : CurveSpec → ℤ → ℤ → ℤ → ℕ → Bool
 begins_within c at value a n =
     int_lt at a && stays_within (c.rate a n) n (c.track.value a) (c.track.value (a +ℤ pos n)) value
 
 -- `is_under c at value a n`: true if the n minutes from minute `a` on are under the point of the
--- minute `at` and `value`: n is from 2 to 1,024, and either they are all before `at` and by the
--- curve's rate (a bound on its change in a minute) have lesser values, or they are all after `at`
--- and by the rate have no greater values; false if `at` is one of them
+-- minute `at` and `value`: n is from 2 to 1,024, and by the curve's rate (a bound on its change in
+-- a minute) their values can't reach `value` if they are all before `at`, or can't exceed it if
+-- they are all after `at`; false if `at` is one of them or the curve has no rate for them
 unfoldable pub is_under : CurveSpec → ℤ → ℤ → ℤ → ℕ → Bool
 is_under c at value a n =
     nat_le 2 n && nat_le n MOST_MINUTES && (ends_below c at value a n || begins_within c at value a n)

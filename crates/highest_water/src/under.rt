@@ -9,10 +9,10 @@ ghost use Rattle.highest_water.specs.Verdicts.{is_inside};
 use curve_law::{Curve, MOST_MINUTES, Point, most_change};
 
 /// Returns true if the `n` minutes from the point `begin` on are under `highest`: `n` is from 2 to
-/// 1,024, the minute of `highest` isn't one of them, and by the curve's rate (a bound on its change
-/// in a minute) their values are all less than the value of `highest` if they are before it, and
-/// none is greater if they are after it. Without a rate it returns false. `end_value` is the value
-/// at the minute `n` minutes after `begin`.
+/// 1,024, and by the curve's rate (a bound on its change in a minute) their values can't reach the
+/// value of `highest` if they are all before its minute, or can't exceed it if they are all after.
+/// Returns false if the minute of `highest` is one of them or the curve has no rate for them.
+/// `end_value` is the curve's value at the minute `n` minutes after `begin`.
 pub fn is_under<C: Curve>(curve: &C, highest: Point, begin: Point, n: u32, end_value: i128) -> bool
     requires size { unsigned_abs highest.value < 10 ^ 37 }
     requires span { IsSpan (C.state curve.now).curve_model.curve_spec begin.minute n }

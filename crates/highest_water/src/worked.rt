@@ -10,10 +10,10 @@ ghost use Rattle.highest_water.specs.Samples.{hills};
 ghost use Rattle.highest_water.specs.Verdicts.{peak_verdict};
 
 /// Proves the minutes of the highest waters of some spans of n minutes from minute `a` on, the last
-/// two arguments. `hills` is a curve with two maxima, given by their minutes and values, that falls
-/// by 1 each minute to both sides of each; `line start falls` has the value `start` at minute 0 and
-/// rises by 1 each minute, or falls; `ripple` is 1 at even minutes and -1 at odd ones. `negsuc n`
-/// is -(n + 1).
+/// two arguments. `hills at top other_at other_top rate` is a curve with two maxima, given by their
+/// minutes and values, that falls by 1 each minute to both sides of each. `line start falls rate`
+/// has the value `start` at minute 0 and rises by 1 each minute, or falls if `falls` is true.
+/// `ripple` is 1 at even minutes and -1 at odd ones. `negsuc n` is -(n + 1).
 #[tactic(auto, unfolding(crate::specs::Peaks::highest_minute))]
 pub fn worked_minutes()
     // Of two maxima with the same value the first is the highest water.
@@ -39,13 +39,13 @@ pub fn worked_minutes()
 /// at most the values at both ends plus the rate times the minutes. `negsuc n` is -(n + 1).
 #[tactic(auto, unfolding(crate::specs::Covers::stays_below, crate::specs::Covers::stays_within, crate::specs::Covers::is_under))]
 pub fn worked_cells_under()
-    // Before the claimed minute the bound must be less than the claimed value: 5 + 7 + 1 * 2 is 2 *
-    // 7.
+    // Before the claimed minute the bound must be less than the claimed value: 5 + 7 + 1 * 2 is
+    // 2 * 7.
     ensures exactly_before { is_under (line (pos 0) false (pos 1)) (pos 7) (pos 7) (pos 5) 2 ≡ false }
     // 4 + 6 + 1 * 2 is less than 2 * 7.
     ensures less_before { is_under (line (pos 0) false (pos 1)) (pos 7) (pos 7) (pos 4) 2 ≡ true }
-    // After the claimed minute the bound may be equal to the claimed value: -1 - 3 + 2 * 2 is 2 *
-    // 0.
+    // After the claimed minute the bound may be equal to the claimed value: -1 - 3 + 2 * 2 is
+    // 2 * 0.
     ensures exactly_after { is_under (line (pos 0) true (pos 2)) (pos 0) (pos 0) (pos 1) 2 ≡ true }
     // -1 - 3 + 3 * 2 is more than 2 * 0.
     ensures more_after { is_under (line (pos 0) true (pos 3)) (pos 0) (pos 0) (pos 1) 2 ≡ false }
@@ -68,9 +68,9 @@ pub fn worked_cells_under()
 /// Proves the cells that are made for a highest water by halving blocks of minutes: `Under n` is n
 /// minutes under the highest water, and `Single` is a single minute. The arguments after the curve
 /// are the highest water's minute and value, the span's first minute, and its number of minutes.
-/// `hills` is a curve with two maxima, given by their minutes and values, that falls by 1 each
-/// minute to both sides of each; `line start falls` has the value `start` at minute 0 and rises by
-/// 1 each minute, or falls.
+/// `hills at top other_at other_top rate` is a curve with two maxima, given by their minutes and
+/// values, that falls by 1 each minute to both sides of each; `line start falls rate` has the value
+/// `start` at minute 0 and rises by 1 each minute, or falls if `falls` is true.
 #[tactic(auto, unfolding(crate::specs::Covers::stays_below, crate::specs::Covers::stays_within, crate::specs::Covers::is_under, curve_law::specs::Pieces::halves_within, curve_law::specs::Pieces::pieces_of_block, curve_law::specs::Pieces::blocks_within, curve_law::specs::Pieces::pieces_of, crate::specs::Covers::peak_cover))]
 pub fn worked_covers()
     // The first 4 minutes, with the highest water at minute 2, are halved down to single minutes.

@@ -1,4 +1,5 @@
--- The cells of a span are those of its pieces.
+-- The cells of a span are the cells of its pieces; and the number of evaluations of a search's
+-- curve is bounded.
 use Rattle.std.proofs.Common.{◌≡◌, ℕ, ◌+◌, ◌-◌, ◌^◌, ◌≤◌, ℤ, pos, ◌+ℤ◌, [], ◌∷◌, length, map, None, refl, ap, arith}
 use Rattle.std.proofs.lemmas.Int.{ints}
 use Rattle.std.proofs.lemmas.List.{length-map}

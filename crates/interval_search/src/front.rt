@@ -69,7 +69,7 @@ fn nearest_piece<C: Curve, R: PieceRule>(
 /// The state of a search over a span of time.
 #[derive(Drop)]
 pub struct Front {
-    /// The point that the search has reached: a minute and the curve's value at it.
+    /// The point that the search has reached: a minute, and the value that the rule uses at it.
     pub at: Point,
     /// The ends of the pieces after this point that are already known, the nearest first, with
     /// their values.

@@ -7,15 +7,15 @@ ghost use Rattle.sample_tides.specs.File.{heading, constituent, value, meridian,
 /// Proves examples of the generator: states after a given state, and the numbers that they give.
 #[tactic(auto, unfolding(crate::specs::Generator::next, crate::specs::Generator::scaled_to))]
 pub fn worked_draws()
-    // After the state 0, the state is the increment.
+    // The state after 0 is the increment, 1,442,695,040,888,963,407.
     ensures first_state { next 0 ≡ 1442695040888963407 }
-    // Its high 32 bits are 335,903,614.
+    // The high 32 bits of the state after 0 are 335,903,614.
     ensures high_half { next 0 / 2 ^ 32 ≡ 335903614 }
-    // Scaled to the numbers below 40,000,000, they give 3,128,346.
+    // The state after 0, scaled to the numbers below 40,000,000, gives 3,128,346.
     ensures first_draw { scaled_to 40000000 (next 0) ≡ 3128346 }
-    // The state is computed modulo 2^64.
+    // The state after the greatest one, 2^64 - 1, is computed modulo 2^64.
     ensures wraps { next (2 ^ 64 - 1) ≡ 13525302890751722018 }
-    // The greatest state gives the greatest number of the range.
+    // The greatest state gives 24, the greatest number below 25.
     ensures greatest { scaled_to 25 (2 ^ 64 - 1) ≡ 24 }
 {}
 
@@ -29,8 +29,8 @@ pub fn worked_lines()
     ensures argument { (value 0 36000 2 (record { text = []; state = 982119659650238624 })).text ≡ codes "237.59" }
     // From the given state, a node factor from 0.8000 to 1.2000 is drawn as 0.8523.
     ensures factor { (value 8000 4001 4 (record { text = []; state = 5109210755522538678 })).text ≡ codes "0.8523" }
-    // From the given state, the lines of the meridian, the datum and the first constituent of a
-    // station.
+    // From the given state, a meridian of 3 hours, a mean level of 6.11 feet, and an amplitude of
+    // 2.67 feet and an epoch of 29.51 degrees for M2 are drawn.
     ensures station { (constants 1 (level (meridian (record { text = []; state = 8627585975969782428 })))).text
         ≡ codes "3:00 :UTC\n6.11 feet\nM2 2.67 29.51\n" }
     // Station 5 is a current; its datum isn't drawn, so the state is unchanged.
