@@ -13,6 +13,7 @@ use harmonics_book::Book;
 use harmonics_text::read_book;
 use listing::plain_events;
 use question::{AskFault, Question, pairs_of_words, read_question};
+use sample_tides::{DAY, PIER, words_of};
 use station_span::{
     Purpose, SpanRequest, StationData, StationRequest, find_events, find_level, find_station,
     highest_minute, level_at, moved_minute,
@@ -21,7 +22,6 @@ use station_table::OffsetTable;
 use std::alloc::Global;
 use std::process::Abort;
 use std::test::Fail;
-use texts_for_tests::{DAY, PIER, words_of};
 use tide_answer::{Given, Refusal, answer, station_events};
 use zone_time::Zone;
 

@@ -2,9 +2,9 @@
 
 use crate::asserts::assert_bytes;
 use decimal_text::{Bytes, Text};
+use sample_tides::{DAY, PIER, words_of};
 use std::alloc::{AllocError, Global};
 use std::test::Fail;
-use texts_for_tests::{DAY, PIER, words_of};
 use tide_answer::Status;
 use tide_desk::run;
 use tide_edge::{FixedClock, MemoryFiles, MemorySink, NamedFile};

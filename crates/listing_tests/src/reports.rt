@@ -12,9 +12,9 @@ use report_sheets::{
     FirstLines, Head, Ranges, Sheet, Tally, fill, missing, pages_show_the_first_events,
     sheets_write_their_layouts, worked_pages, worked_ranges, worked_tallies, worked_words,
 };
+use sample_tides::words_of;
 use std::alloc::{AllocError, Global};
 use std::process::Abort;
-use texts_for_tests::words_of;
 
 pub fn is_printable(name: &str) -> bool
     ensures { IsTrue result → All (λ b. (32 ≤ b) × (b ≢ 127)) name.now }

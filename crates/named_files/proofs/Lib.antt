@@ -1,3 +1,4 @@
+pub mod LoadingLemmas
 pub mod OpenedLemmas
 pub mod ReadingLemmas
 pub mod RequestLemmas

@@ -2,9 +2,9 @@
 use Rattle.std.proofs.Common.{◌≡◌, ◌∙◌, ap, sym, ℕ, ◌+◌, List, [], ◌∷◌, ◌++◌, length, map, Option, Some, None, Result, Ok, Err, inl, inr, refl, subst, append_assoc, append-nil, suc}
 use Rattle.std.specs.Prelude.{Bool, true, false, if◌then◌else◌, ◌<◌, IfSome, IsTrue, OnOk, slice_get, All}
 use Rattle.std.specs.Result.{IsErrAnd}
-use Rattle.book_loading.specs.declared.loading.LoadFault.{LoadFault}
-use Rattle.book_loading.specs.declared.loading.LoadFault.TheVariants as load
-use Rattle.book_loading.specs.Loading.{loaded, source_of as source_of_loading}
+use Rattle.named_files.specs.declared.loading.LoadFault.{LoadFault}
+use Rattle.named_files.specs.declared.loading.LoadFault.TheVariants as load
+use Rattle.named_files.specs.Loading.{loaded, source_of as source_of_loading}
 use Rattle.decimal_text.specs.Expected.{Meets, memory, outside, given}
 use Rattle.harmonics_book.specs.declared.book.Book.{Book as TheBook}
 use Rattle.harmonics_text.specs.declared.fault.BookFault.TheVariants as form

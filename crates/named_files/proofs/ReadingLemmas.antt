@@ -6,12 +6,12 @@ use Rattle.harmonics_book.specs.declared.book.Book.{Book as TheBook}
 use Rattle.harmonics_text.specs.declared.fault.BookFault.TheVariants as form
 use Rattle.harmonics_text.specs.Reading.{At, book_of}
 use Rattle.tide_fault.specs.declared.fault.Fault.{Fault}
-use Rattle.book_loading.specs.declared.loading.LoadFault.{LoadFault}
-use Rattle.book_loading.specs.declared.loading.LoadFault.TheVariants as load
+use Rattle.named_files.specs.declared.loading.LoadFault.{LoadFault}
+use Rattle.named_files.specs.declared.loading.LoadFault.TheVariants as load
 use Rattle.tide_fault.specs.declared.slot.Slot.{Slot}
 use Rattle.tide_fault.specs.declared.slot.Slot.TheVariants.{File, Offsets, Zone, Certificate}
 use Rattle.tide_fault.specs.Faults.{is_out_of_memory as fault_is_out_of_memory, refusal_is_out_of_memory}
-use Rattle.book_loading.specs.Loading.{loaded, bytes_from as load_bytes_from, book_from as load_book_from, source_of as source_of_loading}
+use Rattle.named_files.specs.Loading.{loaded, bytes_from as load_bytes_from, book_from as load_book_from, source_of as source_of_loading}
 use Rattle.station_table.specs.declared.fault.OffsetFault.{OffsetFault}
 use Rattle.station_table.specs.declared.fault.OffsetFault.TheVariants as table
 use Rattle.station_table.specs.declared.offsets.Offsets.{Offsets as TableRow}

@@ -1,3 +1,4 @@
+pub mod Loading
 pub mod RunFaults
 pub mod Opened
 pub mod Readings

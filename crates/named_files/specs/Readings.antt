@@ -12,8 +12,8 @@ use Rattle.station_table.specs.declared.fault.OffsetFault.{OffsetFault}
 use Rattle.station_table.specs.declared.offsets.Offsets.{Offsets as TableRow}
 use Rattle.station_table.specs.Table.{table_of}
 use Rattle.tide_fault.specs.declared.fault.Fault.TheVariants.{TooLong, Book, Offsets, BadZone, Refused}
-use Rattle.book_loading.specs.declared.loading.LoadFault.{LoadFault}
-use Rattle.book_loading.specs.declared.loading.LoadFault.TheVariants as load
+use Rattle.named_files.specs.declared.loading.LoadFault.{LoadFault}
+use Rattle.named_files.specs.declared.loading.LoadFault.TheVariants as load
 use Rattle.tide_fault.specs.declared.refusal.Refusal.TheVariants.{NoMemory}
 use Rattle.tide_fault.specs.declared.slot.Slot.{Slot}
 use Rattle.tide_fault.specs.declared.slot.Slot.TheVariants as slots

@@ -25,9 +25,9 @@ ghost use Rattle.named_files.specs.Readings.{
 ghost use Rattle.named_files.specs.Workings.Materials.{AreMaterials};
 ghost use Rattle.decimal_text.specs.declared.limits.TheConstants.{MOST_BYTES};
 
+use crate::loading::{LoadFault, load_book};
 use crate::materials::Materials;
 use crate::run_fault::RunFault;
-use book_loading::{LoadFault, load_book};
 use decimal_text::{Bytes, MOST_BYTES, Text};
 use harmonics_book::Book;
 use question::{ValidQuestion, ZoneWord};

@@ -1,9 +1,9 @@
 //! The examples of doc comments, in the same words.
 
 use arrayvec::ArrayString;
-use book_loading::{LoadFault, load_book};
 use decimal_text::{DecimalFault, Text, Words, digits, read, write};
 use harmonics_text::{BookFault, Why, read_book};
+use named_files::{LoadFault, load_book};
 use question::{AskFault, Key, pairs_of_words, read_question};
 use station_table::{FindFault, OffsetTable, find, read_offsets};
 use std::test::Fail;

@@ -5,9 +5,9 @@ ghost use Rattle.decimal_text.specs.declared.limits.TheConstants.{MOST_BYTES};
 
 use crate::asserts::assert_holds;
 use crate::edge::add_file;
-use book_loading::{LoadFault, load_book};
 use decimal_text::{MOST_BYTES, Text};
 use harmonics_text::{BookFault, Why};
+use named_files::{LoadFault, load_book};
 use std::alloc::{AllocError, Global};
 use tide_edge::{MemoryFiles, NamedFile};
 

@@ -3,6 +3,8 @@
 //! [`sample`] returns the same file for the same seed. The constants of its stations, which don't
 //! exist, are drawn from a generator of pseudorandom numbers. `specs/File.antt` defines the file
 //! line by line.
+//!
+//! The tests of several crates share a shorter file, [`PIER`], the listing [`DAY`] and [`words_of`].
 #![tactic(auto)]
 
 mod constituents;
@@ -12,7 +14,9 @@ mod quantity;
 mod sample_writer;
 mod stations;
 mod tables;
+mod texts;
 mod worked;
 
 pub use file::sample;
+pub use texts::{DAY, PIER, words_of};
 pub use worked::{worked_draws, worked_lines};

@@ -3,8 +3,9 @@
 //! [`answer`] answers a [`Question`](question::Question) with harmonic constants and a table of offsets:
 //! it returns a text, or the first [`Refusal`] in a fixed order. [`answer_alone`] answers a question
 //! that names no file, and [`station_events`] returns the events for a report. [`prepare`] and
-//! [`answer_into`] write a listing or a certificate while it is computed, without allocating. The crates
-//! above read the files and the arguments and write the text.
+//! [`answer_into`] write a listing or a certificate while it is computed, without allocating.
+//! [`load_book`] of `named_files` is published here too. The crates above read the files and the
+//! arguments and write the text.
 #![tactic(auto)]
 
 mod about;
@@ -36,12 +37,12 @@ mod tracks;
 mod trial;
 
 pub use alone::answer_alone;
-pub use book_loading::load_book;
 pub use commands::{answer, answer_valid};
 pub use heights::sample_row_counts;
 pub use inputs::{Given, GivenView};
 pub use laws::{accepted_is_short, accepted_is_true, certified_is_accepted, certified_is_short};
 pub use listed::{Listed, station_events};
+pub use named_files::load_book;
 pub use peak_laws::{
     accepted_peak_is_short, accepted_peak_is_true, highest_is_reported, peak_certified_is_accepted,
     peak_certified_is_short,

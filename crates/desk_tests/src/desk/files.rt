@@ -2,7 +2,7 @@
 //! were computed by an independent program.
 
 use super::{CASE, Case, Fails, NONE, Source};
-use texts_for_tests::PIER;
+use sample_tides::PIER;
 
 pub const NO_CLOCK: Fails = Fails { clock: 1, ..NONE };
 

@@ -2,7 +2,7 @@
 
 use super::rows::{LATE, NO_STATION, OUT_OF_YEARS};
 use super::{CASE, Case, Source};
-use texts_for_tests::PIER;
+use sample_tides::PIER;
 
 const BACKWARD: &str =
     "predict|file=pier.txt|station=Pier|begin=2000-01-10T00:01Z|end=2000-01-10T00:00Z";

@@ -3,7 +3,7 @@
 
 use super::files::{NO_CLOCK, NO_FILE};
 use super::{CASE, Case, Source};
-use texts_for_tests::PIER;
+use sample_tides::PIER;
 
 const TALLY_RANGE_DAY: &str = "Pier\n2 High Tide\n2 Low Tide\n\
     Pier\nHighest 1.00 feet 2000-01-10T11:59Z\nLowest -1.00 feet 2000-01-10T06:00Z\n\

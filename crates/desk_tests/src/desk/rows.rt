@@ -1,7 +1,7 @@
 //! The rows of the tests. Expected values were computed by an independent program.
 
 use super::{CASE, Case, Source};
-use texts_for_tests::PIER;
+use sample_tides::PIER;
 
 pub const PREDICT: &str =
     "predict|file=pier.txt|station=Pier|begin=2000-01-10T00:00Z|end=2000-01-11T00:00Z";

@@ -1,11 +1,11 @@
 use Rattle.std.proofs.Common.{Ok, Err}
 use Rattle.std.specs.Bool.{IsTrue}
 use Rattle.std.proofs.lemmas.Result.{err_from_is_err_and}
-use Rattle.book_loading.proofs.LoadingLemmas.{book_unlike, excuses_form, excuses_reading, fed_passed, fed_unpassed, loaded_whole, memory_as}
-use Rattle.book_loading.specs.Loading.{loaded, source_of}
+use Rattle.named_files.proofs.LoadingLemmas.{book_unlike, excuses_form, excuses_reading, fed_passed, fed_unpassed, loaded_whole, memory_as}
+use Rattle.named_files.specs.Loading.{loaded, source_of}
 use Rattle.tide_edge.proofs.ReadingLemmas.{once_as, own_once}
 use Rattle.tide_edge.specs.Whole.{whole, source_of as source_of_reading}
-use Rattle.book_loading.proofs.loading.load_book.Goals as goal
+use Rattle.named_files.proofs.loading.load_book.Goals as goal
 
 pub returns-in_err-passed-clause-came : goal.returns-in_err-passed-clause-came
 returns-in_err-passed-clause-came g c =

@@ -1,5 +1,4 @@
 //! Texts shared by the tests of several crates.
-#![tactic(auto)]
 
 use decimal_text::{Text, Words};
 use std::alloc::{AllocError, Global};

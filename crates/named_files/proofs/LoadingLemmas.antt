@@ -8,9 +8,9 @@ use Rattle.tide_edge.specs.declared.read_all_fault.ReadAllFault.{ReadAllFault}
 use Rattle.tide_edge.specs.declared.read_all_fault.ReadAllFault.TheVariants as reading
 use Rattle.decimal_text.specs.Expected.{Excuses, memory}
 use Rattle.tide_edge.specs.Whole.{whole, source_of as source_of_reading}
-use Rattle.book_loading.specs.declared.loading.LoadFault.{LoadFault}
-use Rattle.book_loading.specs.declared.loading.LoadFault.TheVariants.{TooLong, Book}
-use Rattle.book_loading.specs.Loading.{loaded, fault_of_reading, source_of}
+use Rattle.named_files.specs.declared.loading.LoadFault.{LoadFault}
+use Rattle.named_files.specs.declared.loading.LoadFault.TheVariants.{TooLong, Book}
+use Rattle.named_files.specs.Loading.{loaded, fault_of_reading, source_of}
 
 -- the result if reading the file fails
 pub excuses_reading : (limit : ℕ) (firm : Type 0) (file : Option (List ℕ)) (fault : ReadAllFault)

@@ -9,8 +9,8 @@ use Rattle.tide_edge.specs.declared.read_all_fault.ReadAllFault.{ReadAllFault}
 use Rattle.tide_edge.specs.declared.read_all_fault.ReadAllFault.TheVariants as reading
 use Rattle.decimal_text.specs.Expected.{Source, memory, outside, given}
 use Rattle.tide_edge.specs.Whole.{whole}
-use Rattle.book_loading.specs.declared.loading.LoadFault.{LoadFault}
-use Rattle.book_loading.specs.declared.loading.LoadFault.TheVariants.{Failed, TooLong, Book}
+use Rattle.named_files.specs.declared.loading.LoadFault.{LoadFault}
+use Rattle.named_files.specs.declared.loading.LoadFault.TheVariants.{Failed, TooLong, Book}
 
 -- an error of reading a file, as an error of loading a book
 abbrev pub fault_of_reading : ReadAllFault → LoadFault

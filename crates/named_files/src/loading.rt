@@ -2,7 +2,7 @@
 
 ghost use Rattle.std.specs.Prelude.{◌≡◌, ◌↔◌, ◌≤◌, IsTrue, Err, IfOk};
 ghost use Rattle.harmonics_book.specs.Books.{IsBook};
-ghost use Rattle.book_loading.specs.Loading.{loaded, source_of};
+ghost use Rattle.named_files.specs.Loading.{loaded, source_of};
 ghost use Rattle.decimal_text.specs.Expected.{Meets, is_outside_fault};
 ghost use Rattle.tide_edge.specs.Whole.{HasPassed, OpenedOnce, ReadWithin, one_file};
 ghost use Rattle.decimal_text.specs.declared.limits.TheConstants.{MOST_BYTES};
@@ -90,7 +90,7 @@ impl Receiver for Feeder {
 
 impl From<ReadAllFault> for LoadFault {
     ghost use Rattle.std.specs.Prelude.{◌≡◌};
-    ghost use Rattle.book_loading.specs.Loading.{fault_of_reading};
+    ghost use Rattle.named_files.specs.Loading.{fault_of_reading};
 
     ghost from_gives = { λ reading fault. fault ≡ fault_of_reading reading };
 
@@ -105,7 +105,7 @@ impl From<ReadAllFault> for LoadFault {
 
 impl From<BookFault> for LoadFault {
     ghost use Rattle.std.specs.Prelude.{◌≡◌};
-    ghost use Rattle.book_loading.specs.declared.loading.LoadFault.TheVariants.{Book};
+    ghost use Rattle.named_files.specs.declared.loading.LoadFault.TheVariants.{Book};
 
     ghost from_gives = { λ form fault. fault ≡ Book form };
 
@@ -117,7 +117,7 @@ impl From<BookFault> for LoadFault {
 impl From<AllocError> for LoadFault {
     ghost use Rattle.std.specs.Prelude.{◌≡◌};
     ghost use Rattle.harmonics_text.specs.declared.fault.BookFault.TheVariants.{NoMemory};
-    ghost use Rattle.book_loading.specs.declared.loading.LoadFault.TheVariants.{Book};
+    ghost use Rattle.named_files.specs.declared.loading.LoadFault.TheVariants.{Book};
 
     ghost from_gives = { λ _ fault. fault ≡ Book NoMemory };
 
