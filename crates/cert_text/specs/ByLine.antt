@@ -31,7 +31,7 @@ last_of [] = []
 last_of (piece ∷ []) = piece
 last_of (piece ∷ next ∷ more) = last_of (next ∷ more)
 
--- the lines in the bytes, each without the LF that ends it; bytes after the last LF are no line
+-- the lines in the bytes, each without the LF that ends it; bytes after the last LF aren't a line
 abbrev pub lines_in : List ℕ → List (List ℕ)
 lines_in bytes = but_last (pieces bytes)
 
@@ -63,8 +63,8 @@ past_line at lines = record { lines_read = at.lines_read + 1; lines = lines; las
 abbrev pub Part : Type 0 → Type 0
 Part A = Place → Result (A × Place) CertFault
 
--- `handed next result`: goes on after a part with this result: the part that `next` returns for its
--- value reads from its position; if the result is a fault, it stays the result
+-- `handed next result`: the result of a part, followed by the part that `next` returns for its
+-- value and that reads on from its position; if the result is a fault, it stays the result
 abbrev pub handed : {A B : Type 0} → (A → Part B) → Result (A × Place) CertFault → Result (B × Place) CertFault
 handed next (Ok done) = next done.0 done.1
 handed next (Err fault) = Err fault
@@ -91,21 +91,23 @@ abbrev pub first_line : Place → List (List ℕ) → Result (List ℕ × Place)
 first_line at [] = Err (NotACertificate (at.lines_read + 1))
 first_line at (line ∷ lines) = Ok (line, past_line at lines)
 
--- a part that reads one line, whatever it is, and has this line as its value; if no line is left,
--- the fault is at the next line
+-- a part (a reader of some lines) that reads one line, whatever it is, and returns it without its
+-- LF; if no line is left, the fault has the number of the next line, counted from 1
 abbrev pub any_line : Part (List ℕ)
 any_line at = first_line at at.lines
 
--- `line_of item_of`: a part that reads one line and has its value by `item_of`; the fault is at
--- this line if `item_of` returns None for it, or if the line is missing
+-- `line_of item_of`: a part (a reader of some lines) that reads one line and returns the value that
+-- `item_of` gives for it. If `item_of` gives None, or there is no further line, the fault has the
+-- number of this line, counted from 1.
 abbrev pub line_of : {A : Type 0} → (List ℕ → Option A) → Part A
 line_of item_of = any_line >>= λ line. required (item_of line)
 
--- `is_word word line`: `Some` if the line is `word`, else None
+-- `is_word word line`: `Some tt` if the line is `word`, and None for any other line
 abbrev pub is_word : List ℕ → List ℕ → Option (Unit {0})
 is_word word line = if bytes_eq line word then Some tt else None
 
--- `is_next word lines`: the first of the unread lines `lines` is `word`
+-- `is_next word lines`: true if the first of the unread lines `lines` is `word`; false if there is
+-- no line
 abbrev pub is_next : List ℕ → List (List ℕ) → Bool
 is_next word [] = false
 is_next word (line ∷ lines) = bytes_eq line word
@@ -136,8 +138,8 @@ items_at item_of lines_read [] last = ([], record { lines_read = lines_read; lin
 items_at item_of lines_read (line ∷ lines) last =
     items_from (record { lines_read = lines_read; lines = line ∷ lines; last = last }) (item_of line) (items_at item_of (lines_read + 1) lines last)
 
--- `items_of item_of`: a part that reads lines as long as `item_of` has a value for the next one,
--- and has these values in a list
+-- `items_of item_of`: a part (a reader of some lines) that reads lines as long as `item_of` gives a
+-- value for the next one, and returns the list of these values; it has no fault
 abbrev pub items_of : {A : Type 0} → (List ℕ → Option A) → Part (List A)
 items_of item_of at = Ok (items_at item_of at.lines_read at.lines at.last)
 
@@ -159,8 +161,8 @@ is_over [] [] = true
 is_over [] (byte ∷ last) = false
 is_over (line ∷ lines) last = false
 
--- a part that reads no line and checks that no byte is unread; otherwise the fault is at the next
--- line
+-- a part (a reader of some lines) that reads no line and checks that no byte is unread; if one is,
+-- the fault has the number of the next line, counted from 1
 abbrev pub end_of_text : Part (Unit {0})
 end_of_text at = if is_over at.lines at.last then Ok (tt, at) else Err (NotACertificate (at.lines_read + 1))
 
@@ -188,9 +190,9 @@ abbrev pub Takes : {A : Type 0} → Part A → Place → Place → Result A Cert
 Takes part old new (Ok value) = part old ≡ Ok (value, new)
 Takes part old new (Err fault) = is_out_of_memory fault ≡ false → part old ≡ Err fault
 
--- `TakesExactly part old new result`: a function that starts at the position `old` and returns
--- `result` does what `part` does: it has the same value and stops at the same position, `new`, or
--- has the same fault
+-- `TakesExactly part old new result`: a function that reads from the position `old`, stops at `new`
+-- and returns `result` does what `part` (a reader of some lines) does: both return the same value
+-- and stop at the same position, or both return the same fault, and then `new` may be any position
 abbrev pub TakesExactly : {A : Type 0} → Part A → Place → Place → Result A CertFault → Type 0
 TakesExactly part old new (Ok value) = part old ≡ Ok (value, new)
 TakesExactly part old new (Err fault) = part old ≡ Err fault

@@ -46,7 +46,8 @@ IsCellOf track (cells.Turn kind level) = (track_of kind ≡ track) × IsLevel le
 
 -- `IsCertificate c`: the certificate has a text: its version is 1 or 2; its name is UTF-8 of 1 to
 -- 400 bytes without ASCII control bytes; its minutes are in the years 1 to 9999; its mark, if any,
--- is at most 10,000,000,000 millionths in size; each track has only cells that are allowed in it;
+-- is from -10,000,000,000 to 10,000,000,000 millionths of the unit; each cell is quiet for 2 to
+-- 1,024 minutes, still, or an event of a kind that its track lists at a level of at most 14 digits;
 -- and the track of the mark's crossings is present exactly if there is a mark
 pub record IsCertificate (c : Certificate) : Type 0 where
   pub version : (c.version ≡ 1) ⊎ (c.version ≡ 2)
@@ -60,7 +61,8 @@ pub record IsCertificate (c : Certificate) : Type 0 where
   pub marked : is_some c.tracks.mark ≡ is_some c.mark
 
 -- `HasUsualLevel cell`: if the cell is an event, its level is from -11,000 to 11,000 of the
--- station's units: a datum is at most 10,000, and the waves sum to at most 1,000
+-- station's units: the mean level of a station is at most 10,000 of them in size, and its waves
+-- sum to at most 1,000
 abbrev pub HasUsualLevel : Cell → Type 0
 HasUsualLevel (cells.Quiet n) = Unit {0}
 HasUsualLevel cells.Still = Unit {0}

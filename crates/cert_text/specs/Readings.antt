@@ -48,7 +48,8 @@ certificate_part = do
   tracks ← tracks_part mark
   returned (record { version = version; station = station; begin = begin; end = end; mark = mark; tracks = tracks })
 
--- `certificate_of bytes`: the certificate that `bytes` are the text of, or else the number, counted
--- from 1, of the first line with which no certificate goes on
+-- `certificate_of bytes`: the certificate with the text `bytes` or, if there is none, the fault
+-- with the number, counted from 1, of the first line such that no certificate begins with the lines
+-- up to and including it (one past the last line if the bytes end too early)
 unfoldable pub certificate_of : List ℕ → Result Certificate CertFault
 certificate_of bytes = read_by certificate_part bytes

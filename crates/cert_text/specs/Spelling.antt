@@ -79,7 +79,9 @@ pub record SpellsTracks (mark : Option ℤ) (tracks : Tracks) (lines : List (Lis
   pub crossings_spelled : SpellsCrossings mark tracks.mark crossings
   pub all : lines ≡ turn ++ (slack ++ (crossings ++ codes "done" ∷ []))
 
--- `Spells c lines`: `lines`, without their LF, are all lines of the certificate `c`
+-- `Spells c lines`: the grammar of certificates: `lines`, each without its LF, are in this order
+-- the lines of version, station, first minute, end and mark of `c`, those of its tracks, and
+-- `done`, and each is the line of a value in its range
 abbrev pub Spells : Certificate → List (List ℕ) → Type 0
 Spells c (version ∷ station ∷ begin ∷ end ∷ mark ∷ tracks) =
     SpellsVersion c.version version × SpellsStation c.station station
@@ -99,8 +101,8 @@ abbrev pub IsTextOf : Certificate → List ℕ → Type 0
 IsTextOf c bytes = IsTextBy Spells c bytes
 
 -- `IsFaultLine bytes line`: `line` is the least number such that `bytes` have fewer than `line`
--- lines ended by LF, or no certificate begins with the first `line` of them. It says nothing of
--- whether `bytes` are the text of a certificate; if they are, `line` is one past the last line.
+-- lines ended by LF, or no certificate begins with the first `line` of them. If `bytes` are the
+-- text of a certificate, `line` is one past the last line.
 abbrev pub IsFaultLine : List ℕ → ℕ → Type 0
 IsFaultLine bytes line = IsFaultBy Spells bytes line
 

@@ -62,12 +62,12 @@ pub record Change : Type 0 where
 abbrev pub change : ℕ → List ℕ → ℕ → Change
 change line text at = record { line = line; text = text; at = at }
 
--- the text of the certificate `pier` with one line changed
+-- the text of the certificate `pier` with line `c.line`, counted from 1, replaced by `c.text`
 abbrev pub pier_with : Change → List ℕ
 pier_with c = joined (slice_set pier_lines (c.line - 1) c.text)
 
--- changes of the text of the certificate `pier` after which it is no text of a certificate, each
--- with the number of the line that reading then reports
+-- changes of the text of the certificate `pier`, each with the line that reading then reports;
+-- after each of them the bytes aren't the text of a certificate
 abbrev pub changes : List Change
 changes =
     change 1 (codes "tide certificate 3") 1

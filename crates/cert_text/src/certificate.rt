@@ -3,9 +3,10 @@
 use curve_law::Tracks;
 use decimal_text::Text;
 
-/// A claim about the events at a station in a span of minutes: the request, and for each requested
-/// track the cells (claims about consecutive minutes) that divide the span. Contracts about the
-/// text of a certificate require `IsCertificate`: each field is in the range given below.
+/// A claim about the events at a station in a span of minutes: the station, the span and the mark,
+/// and for each track (a list of events of two kinds) the cells (claims about consecutive minutes)
+/// that divide the span. Contracts about the text of a certificate require `IsCertificate`: each
+/// field is in the range that its comment gives.
 #[derive(Drop)]
 pub struct Certificate {
     /// The version of the certificate, 1 or 2. It selects the rule by which a checker decides that

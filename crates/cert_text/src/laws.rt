@@ -64,8 +64,9 @@ pub fn certificates_are_short()
 /// Proves that `certificate_of`, the result of reading bytes line by line with enough memory,
 /// follows the grammar for all bytes: it is the certificate with this text or, if there is none,
 /// the first line such that no certificate begins with the lines up to it. It is never the fault
-/// that memory ran out. The text of a certificate reads as this certificate, and for given bytes at
-/// most one number meets `IsFaultLine`.
+/// that memory ran out. The text of a certificate reads as this certificate, and given bytes have
+/// at most one `IsFaultLine` (the number of the first line such that no certificate begins with the
+/// lines up to it).
 pub fn readings_go_by_the_grammar()
     ensures reads { (bytes : List ℕ) → Reads bytes (certificate_of bytes) }
     ensures never_memory { (bytes : List ℕ) → certificate_of bytes ≢ Err CertFault.NoMemory }

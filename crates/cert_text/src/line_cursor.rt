@@ -8,7 +8,8 @@ use crate::fault::CertFault;
 use crate::lines::next_line;
 use std::marker::Model;
 
-/// How a line is read as an item, in a list with one item on each line.
+/// A form of items in a list with one item on each line: it says which lines are items, and which
+/// item each of them is.
 pub trait ItemForm {
     /// The type of an item.
     type Item: Drop;
@@ -42,8 +43,7 @@ impl<'a> Model for LineCursor<'a> {
 }
 
 impl<'a> LineCursor<'a> {
-    /// Returns the position before the first line of `bytes`; there are at most 400,000,000 of
-    /// them.
+    /// Returns the position before the first line of `bytes`, a text of at most 400,000,000 bytes.
     pub fn new(bytes: &'a [u8]) -> LineCursor<'a>
         requires { length bytes.now ≤ MOST_BYTES }
         ensures { result ≡ place_at 0 bytes.now }

@@ -53,7 +53,7 @@ pub fn parse_number(text: &[u8], most: usize) -> Option<i128>
 
 /// Returns the level, in millionths of the station's unit, that follows `word` on `line`. Returns
 /// `None` if `line` isn't `word` and then a number of 1 to 14 decimal digits, after `-` if it is
-/// negative, without a leading zero.
+/// negative. A leading zero before further digits, and `-0`, aren't accepted.
 pub fn level_after(word: &[u8], line: &[u8]) -> Option<i64>
     ensures { result ≡ option_and_then (parse_number LEVEL_DIGITS) (after word.now line.now) }
 {

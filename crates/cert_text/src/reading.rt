@@ -132,8 +132,8 @@ fn read_lines(alloc: Global, lines: &mut LineCursor<'_>) -> Result<Certificate, 
     })
 }
 
-/// Returns the certificate that `bytes` are the text of; there are at most 400,000,000 of them. It
-/// takes linear time.
+/// Returns the certificate with the text `bytes`, of at most 400,000,000 bytes. The time is linear
+/// in the number of bytes.
 ///
 /// # Errors
 /// [`CertFault::NotACertificate`] if `bytes` aren't the text of a certificate. Its line is the

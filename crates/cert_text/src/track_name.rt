@@ -1,6 +1,7 @@
 //! The tracks of a certificate of events.
 
-/// A track of a certificate of events: it lists the events of two kinds.
+/// The name of a track of a certificate. A track divides the span into cells (claims about
+/// consecutive minutes) and lists the events of two kinds.
 #[derive(Clone, Copy, PartialEq, Eq)]
 pub enum TrackName {
     /// The track of high and low waters or, for a current, of the highs and lows of its speed.

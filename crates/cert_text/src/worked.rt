@@ -14,8 +14,8 @@ pub fn worked_texts()
 {}
 
 /// Proves that the text of the example certificate `pier` reads as this certificate, and which line
-/// is reported for texts that are none: with one line changed, no bytes at all, without the last
-/// line, with a last line that has no LF, and with another line after the last one.
+/// is reported for bytes that aren't the text of a certificate: with one line changed, no bytes at
+/// all, without the last line, with a last line that has no LF, and with another line at the end.
 pub fn worked_readings()
     ensures pier { certificate_of (joined pier_lines) ≡ Ok pier }
     ensures changed { map (λ c. certificate_of (pier_with c)) changes ≡ map (λ c. Err (CertFault.NotACertificate c.at)) changes }

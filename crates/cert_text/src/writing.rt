@@ -44,8 +44,8 @@ fn push_station(out: &mut Vec<u8>, name: &Text) -> Result<(), AllocError>
     push_text(out, "\n")
 }
 
-/// Appends three lines to `out`: the station's `name`, and the first minute `begin` and the end
-/// `end` of the span, the minute after its last. Both count from 1970-01-01T00:00Z and are in the
+/// Appends three lines to `out`: the station's name `name`, the first minute of the span, `begin`,
+/// and the minute after its last, `end`. Both minutes count from 1970-01-01T00:00Z and are in the
 /// years 1 to 9999.
 ///
 /// # Errors

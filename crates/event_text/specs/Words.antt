@@ -32,9 +32,9 @@ is_slack FloodBegins = true
 is_slack EbbBegins = true
 is_slack _ = false
 
--- `has_word units kind`: events of this kind have a name in this unit: each kind in knots (a
--- current), each kind except slack water in feet and meters (a tide), and none in knots squared (a
--- hydraulic current)
+-- `has_word units kind`: true if events of this kind have a name in this unit: each kind in knots
+-- (a current), each kind except slack water in feet and meters (a tide), and none in knots squared
+-- (a hydraulic current)
 abbrev pub has_word : Units → Kind → Bool
 has_word Feet kind = not (is_slack kind)
 has_word Meters kind = not (is_slack kind)
@@ -54,7 +54,9 @@ low_word_of Knots level = if int_lt (pos 0) level then MinFlood else MaxEbb
 low_word_of _ level = LowTide
 
 -- `word_of units kind level`: the name of an event of this kind at `level`, in millionths of the
--- unit; in knots the name of a high or low depends on whether the level is above 0
+-- unit. In knots a high above 0 is a greatest flood (`MaxFlood`) and any other a least ebb
+-- (`MinEbb`), and a low above 0 is a least flood and any other a greatest ebb; in other units highs
+-- and lows are high and low tides. The other names don't depend on the level.
 abbrev pub word_of : Units → Kind → ℤ → EventWord
 word_of units High level = high_word_of units level
 word_of units Low level = low_word_of units level

@@ -16,9 +16,10 @@ use zone_time::{Local, write_local};
 
 /// Writes the line of `event` at the local time `local`, such as
 /// `2000-01-10 06:00 UTC      -1.00 feet  Low Tide`, with its LF, to `out`, which must be empty.
-/// The event's level is in millionths of the unit. The local year is from 0 to 9999, and an offset
-/// is from -1560 to 1560 minutes. The event's kind must have a name in the unit: none has one in
-/// knots squared, and slack water has one only in knots. Nothing is allocated.
+/// The event's level is in millionths of the unit. The local year is from 0 to 9999, and the offset
+/// from universal time, if the label isn't UTC, from -1560 to 1560 minutes. The event's kind must
+/// have a name in the unit: none has one in knots squared, and slack water has one only in knots.
+/// Nothing is allocated.
 #[tactic(auto, unfolding(crate::specs::Lines::event_line_of))]
 pub fn event_line(local: &Local, event: &Event, units: Units, out: &mut ArrayString<96>)
     requires local { IsLocal local.now }
@@ -34,8 +35,8 @@ pub fn event_line(local: &Local, event: &Event, units: Units, out: &mut ArrayStr
 
 /// Writes the line of `level`, in millionths of the unit, at the local time `local`, such as
 /// `2000-01-10 06:00 UTC      -1.00 feet`, without an LF, to `out`, which must be empty. The line
-/// has at most 57 bytes. The local year is from 0 to 9999, and an offset is from -1560 to 1560
-/// minutes. Nothing is allocated.
+/// has at most 57 bytes. The local year is from 0 to 9999, and the offset from universal time, if
+/// the label isn't UTC, from -1560 to 1560 minutes. Nothing is allocated.
 #[tactic(auto, unfolding(crate::specs::Lines::height_line_of))]
 pub fn height_line(local: &Local, level: i64, units: Units, out: &mut ArrayString<96>)
     requires local { IsLocal local.now }

@@ -14,8 +14,8 @@ circle = 216000000000
 abbrev pub radian : ℕ
 radian = 34377467708
 
--- p is an angle on the circle, in units of 1/600,000,000 degree: from 0 up to but not including a full
--- circle
+-- `IsOnCircle p`: p is an angle on the circle, in units of 1/600,000,000 degree: from 0 up to but
+-- not including a full circle
 pub record IsOnCircle (p : ℤ) : Type 0 where
   pub least : pos 0 ≤ℤ p
   pub below : p <ℤ pos circle

@@ -4,8 +4,8 @@ use Rattle.std.specs.Prelude.{ℕ, ◌+◌, ◌*◌, ◌/◌, ◌%◌, ◌<◌, 
 use Rattle.fixed_sine.specs.Circle.{degree, circle}
 use Rattle.fixed_sine.specs.Sine.{isin_of}
 
--- w is a valid speed of a constituent, in units of 1/600,000,000 degree a minute: from 0 to
--- 3,600,000,000 (six degrees a minute), both included
+-- `IsSpeed w`: w is a valid speed of a constituent, in units of 1/600,000,000 degree a minute: from
+-- 0 to 3,600,000,000 (six degrees a minute), both included
 pub record IsSpeed (w : ℤ) : Type 0 where
   pub least : pos 0 ≤ℤ w
   pub most : w ≤ℤ pos 3600000000
@@ -15,8 +15,8 @@ pub record IsSpeed (w : ℤ) : Type 0 where
 unfoldable pub step_of : ℕ → ℕ
 step_of w = 17454000 * w / degree + 1
 
--- if any angle changes by w units of 1/600,000,000 degree, its sine in billionths changes by at most
--- `step_of w`
+-- `RateLaw w`: if any angle on the circle grows by w units of 1/600,000,000 degree, its sine in
+-- billionths changes by at most `step_of w`
 abbrev pub RateLaw : ℕ → Type 0
 RateLaw w =
     (p : ℕ) → p < circle → unsigned_abs (isin_of ((p + w) % circle) -ℤ isin_of p) ≤ step_of w

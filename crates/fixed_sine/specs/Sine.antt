@@ -21,8 +21,9 @@ quarter_of p = int_div (scaled_between (p / degree) (p % degree)) (pos (4 * degr
 unfoldable pub half_of : ℕ → ℤ
 half_of p = if nat_lt p (circle / 4) then quarter_of p else quarter_of (circle / 2 - p)
 
--- the sine in billionths of the angle p on the circle, in units of 1/600,000,000 degree: on the second
--- half of the circle it is the negated sine of p minus half a circle
+-- the sine in billionths of the angle p on the circle, in units of 1/600,000,000 degree,
+-- interpolated between the whole degrees of a table and rounded towards 0; on the second half of
+-- the circle it is the negated sine of p minus half a circle
 unfoldable pub isin_of : ℕ → ℤ
 isin_of p = if nat_lt p (circle / 2) then half_of p else neg_ℤ (half_of (p - circle / 2))
 

@@ -4,7 +4,7 @@ ghost use Rattle.std.specs.Prelude.{◌≡◌, ◌<◌, ◌≤◌, ◌-◌, pos,
 ghost use Rattle.fixed_sine.specs.Table.{sine_at};
 ghost use Rattle.fixed_sine.specs.Workings.Degrees.{slope_at, bend_at, IsReady};
 
-/// The sine at the start of a degree, with its slope and bend, prepared for fast sums.
+/// The sine at the start of a degree, and its slope and bend, which give the sine over the degree.
 #[derive(Clone, Copy)]
 pub struct Degree {
     /// The change of the sine for each unit of 1/600,000,000 degree at the start of the degree, in
@@ -380,7 +380,7 @@ static DEGREES: [(i64, i32, i32); 360] = [
     (536_525_926_402_141_799, -17_430_124, -17_452_405),
 ];
 
-/// Returns the sine, slope and bend of the degree from `degrees` degrees on, from 0 to 359.
+/// Returns the [`Degree`] (sine, slope and bend) that begins at `degrees` degrees, from 0 to 359.
 pub fn degree_at(degrees: usize) -> Degree
     requires { degrees < 360 }
     ensures first { degrees < 180 → (result.sine ≡ sine_at (pos degrees))

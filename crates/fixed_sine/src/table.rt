@@ -3,8 +3,8 @@
 ghost use Rattle.std.specs.Prelude.{◌≡◌, ◌+◌, ◌<◌, ◌≤◌, pos, neg_ℤ, slice_index};
 ghost use Rattle.fixed_sine.specs.Table.{sines, correction};
 
-/// The row of the table of sines for one degree: the sine at its start, and the numbers that
-/// interpolation over the degree uses.
+/// The row of the table of sines for one degree: the sine at its start, its rise to the next
+/// degree, and the size of the correction of the interpolation over it, all in billionths.
 #[derive(Clone, Copy)]
 pub struct SineRow {
     /// The sine at the start of the degree, in billionths.
@@ -53,8 +53,9 @@ fn whole_sine(degrees: usize) -> u32
     SINES[degrees]
 }
 
-/// Returns the row of the table of sines for the degree that begins at `degrees` whole degrees, from 0
-/// to 89.
+/// Returns the row of the table of sines for the degree that begins at `degrees` whole degrees,
+/// from 0 to 89: the sine there, its rise to the next degree, and the absolute value of the
+/// correction of the interpolation, which is negative or 0. All are in billionths.
 pub fn row_of(degrees: usize) -> SineRow
     requires { degrees < 90 }
     ensures sine { result.sine ≡ slice_index sines degrees }

@@ -50,8 +50,9 @@ abbrev pub with_fault : {C : Type 0} → Result C ReadingFault → Result C Peak
 with_fault (Ok decoded) = Ok decoded
 with_fault (Err fault) = Err (fault_of fault)
 
--- `peak_of bytes`: the certificate of a highest water that `bytes` are the text of, or else the
--- number, counted from 1, of the first line with which no such certificate goes on
+-- `peak_of bytes`: the certificate of a highest water with the text `bytes` or, if there is none,
+-- the fault with the number, counted from 1, of the first line such that no such certificate begins
+-- with the lines up to and including it (one past the last line if the bytes end too early)
 unfoldable pub peak_of : List ℕ → Result PeakCertificate PeakFault
 peak_of bytes = with_fault (read_by peak_part bytes)
 

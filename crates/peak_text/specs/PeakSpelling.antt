@@ -32,8 +32,9 @@ SpellsPeakCells cells [] = ⊥
 SpellsPeakCells [] (line ∷ lines) = (line ≡ codes "done") × (lines ≡ [])
 SpellsPeakCells (cell ∷ cells) (line ∷ lines) = SpellsPeakCell cell line × SpellsPeakCells cells lines
 
--- `SpellsPeak c lines`: `lines`, without their LF, are all lines of the certificate `c` of a
--- highest water
+-- `SpellsPeak c lines`: the grammar of certificates of a highest water: `lines`, each without its
+-- LF, are in this order the lines of title, station, first minute and end of the span, minute and
+-- value of the highest water, cells, and `done`, and each is the line of a value in its range
 abbrev pub SpellsPeak : PeakCertificate → List (List ℕ) → Type 0
 SpellsPeak c (title ∷ station ∷ begin ∷ end ∷ at ∷ value ∷ cells) =
     (title ≡ codes "peak certificate 1") × SpellsStation c.station station
@@ -54,9 +55,8 @@ abbrev pub IsPeakTextOf : PeakCertificate → List ℕ → Type 0
 IsPeakTextOf c bytes = IsTextBy SpellsPeak c bytes
 
 -- `IsPeakFaultLine bytes line`: `line` is the least number such that `bytes` have fewer than `line`
--- lines ended by LF, or no certificate of a highest water begins with the first `line` of them. It
--- says nothing of whether `bytes` are the text of one; if they are, `line` is one past the last
--- line.
+-- lines ended by LF, or no certificate of a highest water begins with the first `line` of them. If
+-- `bytes` are the text of one, `line` is one past the last line.
 abbrev pub IsPeakFaultLine : List ℕ → ℕ → Type 0
 IsPeakFaultLine bytes line = IsFaultBy SpellsPeak bytes line
 

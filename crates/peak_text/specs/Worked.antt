@@ -29,13 +29,13 @@ pier_lines =
     ∷ codes "u 8" ∷ codes "u 16"
     ∷ codes "done" ∷ [])
 
--- the text of the certificate `pier` with one line changed
+-- the text of the certificate `pier` with line `c.line`, counted from 1, replaced by `c.text`
 abbrev pub pier_with : Change → List ℕ
 pier_with c = joined (slice_set pier_lines (c.line - 1) c.text)
 
--- changes of the text of the certificate `pier` after which it is no text of a certificate of a
--- highest water, each with the number of the line that reading then reports. The first makes the
--- title of a certificate of events.
+-- changes of the text of the certificate `pier`, each with the line that reading then reports;
+-- after each of them the bytes aren't the text of a certificate of a highest water. The first makes
+-- the title of a certificate of events.
 abbrev pub changes : List Change
 changes =
     change 1 (codes "tide certificate 2") 1

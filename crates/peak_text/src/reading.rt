@@ -69,8 +69,8 @@ fn read_lines(alloc: Global, lines: &mut LineCursor<'_>) -> Result<PeakCertifica
     })
 }
 
-/// Returns the certificate of a highest water that `bytes` are the text of; there are at most
-/// 400,000,000 of them. It takes linear time.
+/// Returns the certificate of a highest water with the text `bytes`, of at most 400,000,000 bytes.
+/// The time is linear in the number of bytes.
 ///
 /// # Errors
 /// [`PeakFault::NotACertificate`] if `bytes` aren't the text of a certificate of a highest water.

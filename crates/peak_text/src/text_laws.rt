@@ -36,8 +36,9 @@ pub fn peak_texts_are_short()
 /// Proves that `peak_of`, the result of reading bytes line by line with enough memory, follows the
 /// grammar for all bytes: it is the certificate of a highest water with this text or, if there is
 /// none, the first line such that no certificate begins with the lines up to it. It is never the
-/// fault that memory ran out. The text of a certificate reads as this certificate, and for given
-/// bytes at most one number meets `IsPeakFaultLine`.
+/// fault that memory ran out. The text of a certificate reads as this certificate, and given bytes
+/// have at most one `IsPeakFaultLine` (the number of the first line such that no certificate begins
+/// with the lines up to it).
 pub fn peak_readings_go_by_the_grammar()
     ensures reads { (bytes : List ℕ) → ReadsPeak bytes (peak_of bytes) }
     ensures never_memory { (bytes : List ℕ) → peak_of bytes ≢ Err PeakFault.NoMemory }

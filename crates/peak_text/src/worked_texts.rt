@@ -14,9 +14,9 @@ pub fn worked_peak_texts()
 {}
 
 /// Proves that the text of the example certificate `pier` reads as this certificate, and which
-/// line, counted from 1, is reported for texts that are none: with one line changed, no bytes at
-/// all, without the last line, with a last line that has no LF, and with another line after the
-/// last one.
+/// line, counted from 1, is reported for bytes that aren't the text of a certificate: with one line
+/// changed, no bytes at all, without the last line, with a last line that has no LF, and with
+/// another line at the end.
 pub fn worked_peak_readings()
     ensures pier { peak_of (joined pier_lines) ≡ Ok pier }
     ensures changed { map (λ c. peak_of (pier_with c)) changes ≡ map (λ c. Err (PeakFault.NotACertificate c.at)) changes }

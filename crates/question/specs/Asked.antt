@@ -67,6 +67,7 @@ HasFiles Trial q = Unit {0}
 HasFiles _ q = IsSome q.file
 
 -- If the question is from a command line, it has the names of the files that its command requires.
+-- A question from a web query can't name files, and always meets this.
 abbrev pub NamesFiles : Origin → Question → Type 0
 NamesFiles Line q = HasFiles q.command q
 NamesFiles Query q = Unit {0}

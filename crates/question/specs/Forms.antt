@@ -43,9 +43,10 @@ abbrev pub mark_from : Result ℤ DecimalFault → Option ℤ
 mark_from (Ok millionths) = if nat_le (unsigned_abs millionths) 10000000000 then Some millionths else None
 mark_from (Err fault) = None
 
--- The mark that the text, a decimal, writes, in millionths of the station's unit, from
--- -10,000,000,000 to 10,000,000,000. None if it isn't a whole number of millionths (zeros after the
--- sixth decimal place are accepted), has more than 18 digits before the point, or isn't a decimal.
+-- The mark (a level or a speed) that the text writes as a decimal, such as `-0.5`, in millionths of
+-- the station's unit, from -10,000,000,000 to 10,000,000,000. None if it isn't a whole number of
+-- millionths (zeros after the sixth decimal place are accepted), has more than 18 digits before the
+-- point, or isn't a decimal.
 unfoldable pub mark_of : List ℕ → Option ℤ
 mark_of text = mark_from (read_of text 6)
 

@@ -11,7 +11,7 @@ layout_of text =
     if bytes_eq text (codes "plain") then Some Plain
     else if bytes_eq text (codes "csv") then Some Csv else None
 
--- The media type of texts in the layout.
+-- The media type (RFC 6838) of texts in the layout.
 abbrev pub media_type_of : Layout → List ℕ
 media_type_of Plain = codes "text/plain"
 media_type_of Csv = codes "text/csv"

@@ -96,8 +96,8 @@ with_items origin command item_number [] key_texts = Ok key_texts
 with_items origin command item_number (item ∷ items) key_texts =
     with_item origin command item_number item key_texts >>= with_items origin command (item_number + 1) items
 
--- The first key of the table that the command requires in a question of this origin and that has no
--- text, or None if there isn't one.
+-- The first key, in the order in which a missing one is reported, that the command requires in a
+-- question of this origin and that has no text, or None if there isn't one.
 abbrev pub missing_key : Origin → Command → KeyTexts → Option Key
 missing_key origin command key_texts = find (λ k. is_needed origin command k && not (is_some (key_texts k))) all_keys
 

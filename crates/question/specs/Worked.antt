@@ -14,8 +14,7 @@ use Rattle.question.specs.Words.{item_of, pairs_of}
 abbrev pub is_space : ℕ → Bool
 is_space byte = byte == 32
 
--- The question of a command line, or its first fault; the arguments are written with one space
--- between two of them.
+-- The question of a command line, or its first fault. The arguments are separated by single spaces.
 abbrev pub of_line : List ℕ → Result Question AskFault
 of_line words = question_of (pairs_of (slice_split is_space words))
 

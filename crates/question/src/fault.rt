@@ -3,8 +3,8 @@
 use crate::key::Key;
 use std::alloc::AllocError;
 
-/// The first fault of a question: of its command, of an item (an argument after the command, or a
-/// pair of a query; items are counted from 1), or that a required key is missing.
+/// The first fault of a question: a fault of its command or of one of its items (arguments after
+/// the command, or pairs of a query, counted from 1), or a missing key that the command requires.
 #[derive(Clone, Copy, Debug, PartialEq, Eq)]
 pub enum AskFault {
     /// Memory ran out while the question was read.

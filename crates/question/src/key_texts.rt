@@ -42,7 +42,7 @@ pub fn has_key_text(items: &[Item], key: Key) -> bool
     text_for(items, key).is_some()
 }
 
-/// Returns the first key, in the order of the table, that `command` requires in questions from
+/// Returns the first key, in the order of [`Key`], that `command` requires in questions from
 /// `origin` and to which `items` give no text: no item has the key's name, or the last such item
 /// has no value. Returns `None` if there is no such key.
 pub fn missing_key(origin: Origin, command: Command, items: &[Item]) -> Option<Key>

@@ -22,12 +22,12 @@ use std::alloc::Global;
 ///
 /// # Errors
 /// The first of these: [`AskFault::NoCommand`] (`pairs` has no command) or
-/// [`AskFault::UnknownCommand`] (no command that a question of this origin can have is called so);
+/// [`AskFault::UnknownCommand`] (a question of this origin can't have a command with this name);
 /// then for each item, from the left, [`AskFault::NotAPair`] (it has no value),
 /// [`AskFault::UnknownKey`] (the command doesn't have the key in a question of this origin),
 /// [`AskFault::RepeatedKey`] (an earlier item has the key) or [`AskFault::BadValue`] (the value
-/// doesn't have the key's form); then [`AskFault::MissingKey`] with the first key of the table that
-/// is required and missing. [`AskFault::NoMemory`] if memory runs out.
+/// doesn't have the key's form); then [`AskFault::MissingKey`] with the first key, in the order of
+/// [`Key`](crate::Key), that is required and missing. [`AskFault::NoMemory`] if memory runs out.
 ///
 /// # Examples
 /// ```
@@ -55,8 +55,8 @@ pub fn read_question(alloc: Global, pairs: &Pairs) -> Result<Question, AskFault>
 /// The first of these: for each item, from the left, [`AskFault::NotAPair`] (it has no value),
 /// [`AskFault::UnknownKey`] (`command` doesn't have the key in a question from `origin`),
 /// [`AskFault::RepeatedKey`] (an earlier item has the key) or [`AskFault::BadValue`] (the value
-/// doesn't have the key's form); then [`AskFault::MissingKey`] with the first key of the table that
-/// is required and missing. [`AskFault::NoMemory`] if memory runs out.
+/// doesn't have the key's form); then [`AskFault::MissingKey`] with the first key, in the order of
+/// [`Key`](crate::Key), that is required and missing. [`AskFault::NoMemory`] if memory runs out.
 pub fn read_items(
     alloc: Global,
     origin: Origin,

@@ -40,8 +40,8 @@ fn value(digits: &str) -> Option<u64>
     digits.parse().ok()
 }
 
-/// Returns the number that `text`, from 1 to `digits` decimal digits, writes. Returns `None` if the
-/// text isn't so many digits, or if the number isn't from `least` to `most`, both included.
+/// Returns the number that `text` writes with 1 to `digits` decimal digits. Returns `None` for any
+/// other text, or if the number isn't from `least` to `most`, both included.
 #[tactic(auto, unfolding(crate::specs::Forms::parse_number))]
 pub fn number(text: &str, digits: usize, least: u64, most: u64) -> Option<u64>
     ensures value { result ≡ parse_number digits least most text.now }

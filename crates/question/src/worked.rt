@@ -58,7 +58,10 @@ pub fn worked_questions()
     ensures check_asked { of_query (codes "check") [] ≡ Ok (bare Command.Check) }
 {}
 
-/// Proves computed examples of command lines that make no question, with the fault of each.
+/// Proves computed examples of command lines that make no question, with the first fault of each.
+/// The number in a fault is that of the item (an argument after the command), counted from 1.
+/// Commands are in small letters, a minute needs a time of day, and a fault of an item comes before
+/// a missing key.
 #[tactic(auto, unfolding(crate::specs::Questions::question_of, crate::specs::Questions::with_items, crate::specs::Questions::with_item, crate::specs::Forms::some_text, crate::specs::Forms::parse_number, crate::specs::Forms::mark_of, crate::specs::Layouts::layout_of, crate::specs::Forms::clock_of, crate::specs::Forms::offset_of, crate::specs::Forms::zone_of, crate::specs::Forms::sheets_of, zone_time::specs::Moments::moment_of, zone_time::specs::Moments::has_form, jiff_core::specs::Calendar::days_from_civil, jiff_core::specs::Calendar::day_count, jiff_core::specs::Calendar::days_of_years, jiff_core::specs::Calendar::days_of_months, decimal_text::specs::Decimal::read_of, decimal_text::specs::Decimal::decimal_of, decimal_text::specs::Decimal::after_point, decimal_text::specs::Decimal::made_of, decimal_text::specs::Decimal::scaled_or_bad, decimal_text::specs::Decimal::scaled))]
 pub fn worked_faults()
     ensures no_words { question_of (pairs_of []) ≡ Err AskFault.NoCommand }
@@ -75,8 +78,9 @@ pub fn worked_faults()
         ≡ Err (AskFault.MissingKey Key.Sheets) }
 {}
 
-/// Proves computed examples of web queries that make no question, with the fault of each. A query
-/// can't name files.
+/// Proves computed examples of web queries that make no question, with the first fault of each; a
+/// number counts the pairs of the query from 1. A query can't name files: not by a key, nor as a
+/// zone file (`@rome`), and the command `serve` has no path.
 #[tactic(auto, unfolding(crate::specs::Questions::question_of, crate::specs::Questions::with_items, crate::specs::Questions::with_item, crate::specs::Forms::some_text, crate::specs::Forms::parse_number, crate::specs::Forms::mark_of, crate::specs::Layouts::layout_of, crate::specs::Forms::clock_of, crate::specs::Forms::offset_of, crate::specs::Forms::zone_of, crate::specs::Forms::sheets_of, zone_time::specs::Moments::moment_of, zone_time::specs::Moments::has_form, jiff_core::specs::Calendar::days_from_civil, jiff_core::specs::Calendar::day_count, jiff_core::specs::Calendar::days_of_years, jiff_core::specs::Calendar::days_of_months, decimal_text::specs::Decimal::read_of, decimal_text::specs::Decimal::decimal_of, decimal_text::specs::Decimal::after_point, decimal_text::specs::Decimal::made_of, decimal_text::specs::Decimal::scaled_or_bad, decimal_text::specs::Decimal::scaled))]
 pub fn worked_query_faults()
     ensures no_path { of_query (codes "serve") [] ≡ Err AskFault.UnknownCommand }
@@ -86,7 +90,8 @@ pub fn worked_query_faults()
 {}
 
 /// Proves computed examples of texts that are values of keys, and of texts that aren't, near the
-/// ends of the keys' ranges.
+/// ends of the keys' ranges: numbers (a seed and a step), marks in millionths of the unit, zones,
+/// with offsets in minutes, and sheets. `negsuc n` is -(n + 1).
 #[tactic(auto, unfolding(crate::specs::Questions::question_of, crate::specs::Questions::with_items, crate::specs::Questions::with_item, crate::specs::Forms::some_text, crate::specs::Forms::parse_number, crate::specs::Forms::mark_of, crate::specs::Layouts::layout_of, crate::specs::Forms::clock_of, crate::specs::Forms::offset_of, crate::specs::Forms::zone_of, crate::specs::Forms::sheets_of, decimal_text::specs::Decimal::read_of, decimal_text::specs::Decimal::decimal_of, decimal_text::specs::Decimal::after_point, decimal_text::specs::Decimal::made_of, decimal_text::specs::Decimal::scaled_or_bad, decimal_text::specs::Decimal::scaled))]
 pub fn worked_values()
     ensures seed_too_large { parse_number 20 0 18446744073709551615 (codes "18446744073709551616") ≡ None }

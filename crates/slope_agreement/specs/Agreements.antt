@@ -40,8 +40,9 @@ predicted_gap b s m = gap_between (predicted_level b s) (predicted_slope b s) m
 abbrev pub predicted_gap_before : Book → Station → ℤ → ℕ
 predicted_gap_before b s m = gap_before (predicted_level b s) (predicted_slope b s) m
 
--- minute m and the next one are in the plain part of year `year`, counted from 0: in the year, and an
--- hour or more from each new year between two of the book's years
+-- `IsPlainMinute first_year years m year`: minute m and the next one are in the plain part of year
+-- `year`, counted from 0: in the year, and an hour or more from each new year between two of the
+-- book's years
 pub record IsPlainMinute (first_year : ℤ) (years : ℕ) (m : ℤ) (year : ℕ) : Type 0 where
   pub first : InDomain first_year years m
   pub last : InDomain first_year years (m +ℤ pos 1)
@@ -61,10 +62,10 @@ unfoldable pub greatest : (ℕ → ℤ) → ℕ → ℤ
 greatest value zero = pos 0
 greatest value (suc year) = int_max (greatest value year) (value year)
 
--- a bound on the difference between the rise of the level in a minute and the slope, the greatest bound
--- of the years that the prediction `c` needs, in billionths of a millionth of the station's unit a
--- minute, times 34,377,467,708 (the units of angle in a radian) and 4,147,200,000 (the total weight of a
--- blend)
+-- a bound on the difference between the rise of the level in a minute and the slope: the greatest
+-- of the bounds of the years within an hour of the minutes of the prediction `c`, in billionths of
+-- a millionth of the station's unit a minute, times 34,377,467,708 (the units of angle in a radian)
+-- and 4,147,200,000 (the total weight of a blend)
 abbrev pub agreement_of : Prediction → ℤ
 agreement_of c = greatest (λ year. year_agreement (sums_for c year)) c.book.years
 

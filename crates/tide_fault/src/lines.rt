@@ -30,8 +30,9 @@ use zone_time::write_moment;
 
 /// Returns the line that reports `fault`, with its LF. `table` is the table of subordinate stations
 /// that was read. For [`NoReference`](Refusal::NoReference) the line ends with the name of the
-/// reference station in the refusal's row of `table`, or without a name if there is no such row. A
-/// minute of [`OutOfYears`](Refusal::OutOfYears) outside the years 1 to 9999 is left out.
+/// reference station in the row of `table` whose index the refusal has, or without a name if
+/// `table` has no such row. A minute of [`OutOfYears`](Refusal::OutOfYears) outside the years 1 to
+/// 9999 is left out.
 ///
 /// # Errors
 /// [`AllocError`] if memory runs out.

@@ -37,8 +37,8 @@ pub record AreYears (first_year : ℤ) (years : ℕ) : Type 0 where
 abbrev pub start_of : ℤ → ℕ → ℤ
 start_of first_year year = year_start_of (first_year +ℤ pos year)
 
--- minute m, since 1970-01-01T00:00Z, is in the `years` years from `first_year` on, or is the first
--- minute after them
+-- `InDomain first_year years m`: minute m, since 1970-01-01T00:00Z, is in the `years` years from
+-- `first_year` on, or is the first minute after them
 pub record InDomain (first_year : ℤ) (years : ℕ) (m : ℤ) : Type 0 where
   pub least : year_start_of first_year ≤ℤ m
   pub most : m ≤ℤ year_start_of (first_year +ℤ pos years)
@@ -59,9 +59,10 @@ pub record IsInYear (first_year : ℤ) (years : ℕ) (m : ℤ) (year : ℕ) : Ty
   pub begun : start_of first_year year ≤ℤ m
   pub ongoing : (m <ℤ start_of first_year (suc year)) ⊎ ((suc year ≡ years) × (m ≡ start_of first_year years))
 
--- the rule for the position of minute m in `years` years from `first_year` on: Blend with the year and
--- x if m is in the blend at the year's start, x minutes after it; Plain with the year that contains m
--- if m is in no blend
+-- the rule for the position of minute m in `years` years from `first_year` on: `Blend year x` if m
+-- is in the blend at the start of the year with index `year`, x minutes after it (before it, if x
+-- is negative); `Plain year` if m is in the year with index `year` and in no blend. Indexes are
+-- from 0.
 abbrev pub IsPlaceOf : ℤ → ℕ → ℤ → Place → Type 0
 IsPlaceOf first_year years m (Plain year) =
     IsInYear first_year years m year
@@ -85,8 +86,10 @@ place_in first_year years m year =
     else (if nat_lt (suc year) years && int_lt (negsuc 59) left then Blend (suc year) left
     else Plain year)
 
--- the position of minute m in `years` years from `first_year` on: Blend, if m is less than an hour from
--- a new year between two of them, else Plain with the year that contains m
+-- the position of minute m in `years` years from `first_year` on: `Blend year x` if m is less than
+-- an hour from the start of the year with index `year`, x minutes after it (before it, if x is
+-- negative); else `Plain year`, with the index of the year that contains m. The first year has the
+-- index 0, and its start has no blend.
 unfoldable pub place_of : ℤ → ℕ → ℤ → Place
 place_of first_year years m = place_in first_year years m (year_at first_year years m)
 

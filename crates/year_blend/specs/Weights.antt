@@ -7,8 +7,8 @@ use Rattle.std.specs.Prelude.{ℕ, ℤ, pos, negsuc, ◌+ℤ◌, ◌-ℤ◌, ◌
 abbrev pub total_weight : ℕ
 total_weight = 4147200000
 
--- x is a number of minutes after a new year, from -60 to 60, both included; negative before the new
--- year
+-- `IsWithinHourOfNewYear x`: x is a number of minutes after a new year, from -60 to 60, both
+-- included; negative before the new year
 pub record IsWithinHourOfNewYear (x : ℤ) : Type 0 where
   pub least : negsuc 59 ≤ℤ x
   pub most : x ≤ℤ pos 60

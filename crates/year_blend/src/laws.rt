@@ -32,7 +32,8 @@ pub fn unique_places()
 {}
 
 /// Proves for a minute `m` in a year, outside the blends at new years, that `plain_end_of` the year
-/// isn't before `m`, and that each minute from `m` to it is in the same year, outside the blends.
+/// (its last minute outside the blend at the next new year) isn't before `m`, and that each minute
+/// from `m` to it is in the same year, outside the blends.
 pub fn plain_parts()
     ensures rest { (first_year : ℤ) (years : ℕ) (m later : ℤ) (year : ℕ) → AreYears first_year years → InDomain first_year years m
         → place_of first_year years m ≡ Plain year → m ≤ℤ later → later ≤ℤ plain_end_of first_year years year
@@ -81,11 +82,12 @@ pub fn worked_places()
     ensures last { place_of (pos 1999) 3 (pos 16830720) ≡ Place.Plain 2 }
 {}
 
-/// Proves which of the years 1999 (index 0) to 2001 (index 2) the minutes use from a first one to one
-/// that is 1,024, 1,000 or 1 minutes later; times are UTC. From 05:56 to 23:00 on 31 December 1999 they
-/// are in 1999 (`Within 0`). From 05:57 to 23:01 they reach the blend at the start of 2000 (`Across
-/// 1`), as do the minutes from 16:00 to 08:40 on 1 January 2000, and from 00:59 to 01:00. From 01:00 on
-/// they are in 2000, and up to the first minute of 2002 in 2001.
+/// Proves examples of the years, out of 1999 (index 0) to 2001 (index 2), whose constants apply to
+/// consecutive minutes: the last is 1,024, 1,000 or 1 minutes after the first. Times are UTC. From
+/// 05:56 to 23:00 on 31 December 1999 they are in 1999 (`Within 0`). From 05:57 to 23:01 they reach
+/// the blend at the start of 2000 (`Across 1`), as do the minutes from 16:00 to 08:40 on 1 January
+/// 2000, and from 00:59 to 01:00. From 01:00 on they are in 2000, and up to the first minute of
+/// 2002 in 2001.
 pub fn worked_stretches()
     ensures up_to_the_end { stretch_of (pos 1999) 3 (pos 15776996) 1024 ≡ Stretch.Within 0 }
     ensures past_the_end { stretch_of (pos 1999) 3 (pos 15776997) 1024 ≡ Stretch.Across 1 }

@@ -12,8 +12,8 @@ pub enum Place {
     Blend { year: u32, x: i64 },
 }
 
-/// Which years' constants some consecutive minutes use: one year's, or two years' around a new year.
-/// `year` is the index of a year, 0 for the first.
+/// The year or years whose constants apply to some consecutive minutes: one year, or the two years
+/// around a new year. `year` is the index of a year, 0 for the first.
 #[derive(Clone, Copy, PartialEq, Eq)]
 pub enum Stretch {
     /// All minutes are in the year with index `year`, and none is less than an hour from a new year

@@ -12,11 +12,11 @@ use crate::parts::{Place, Stretch};
 /// one: the greatest `n` that [`stretch`] accepts.
 pub const LONGEST_SPAN: u32 = 1024;
 
-/// Returns the year or years with the constants that the minutes from `m` to `m + n`, both included,
-/// use, among `years` calendar years from `first_year` on: one year if each of these minutes is at
-/// least an hour from every new year between two of the years, and otherwise the two years around that
-/// new year. `m` and `m + n`, counted from 1970-01-01T00:00Z, are from the first minute of the years to
-/// the first minute after them; `n` is at most [`LONGEST_SPAN`] (1,024).
+/// Returns the year or years, among `years` calendar years from `first_year` on, whose constants
+/// apply to the minutes from `m` to `m + n`, both included: one year if each of these minutes is at
+/// least an hour from every new year between two of the years, and otherwise the two years around
+/// that new year. `m` and `m + n`, counted from 1970-01-01T00:00Z, are from the first minute of the
+/// years to the first minute after them; `n` is at most [`LONGEST_SPAN`] (1,024).
 #[cold]
 #[inline(never)]
 pub fn stretch(first_year: i32, years: u32, m: i64, n: u32) -> Stretch

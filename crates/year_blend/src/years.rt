@@ -19,7 +19,7 @@ pub fn year_start(y: i32) -> i64
 }
 
 /// Returns the day number of 1 January of the year `y`, in days since 1970-01-01 (negative before
-/// 1970).
+/// 1970). `y` is from -9999 to 9999.
 pub fn new_years_day(y: i32) -> i64
     requires { IsYear y }
     ensures value { result ≡ days_from_civil y 1 1 }
@@ -28,8 +28,8 @@ pub fn new_years_day(y: i32) -> i64
     Date::constrain(y as i16, 1, 1).to_unix_epoch_day() as i64
 }
 
-/// Returns the calendar year that contains the day with the number `day`, in days since 1970-01-01
-/// (negative before 1970).
+/// Returns the calendar year, from -9999 to 9999, that contains the day with the number `day`, in
+/// days since 1970-01-01 (negative before 1970), from -4,371,587 to 2,932,896.
 pub fn year_of_day(day: i64) -> i32
     requires { IsEpochDay day }
     ensures begun { days_from_civil result 1 1 ≤ℤ day }

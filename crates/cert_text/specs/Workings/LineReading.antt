@@ -46,7 +46,7 @@ use Rattle.cert_text.specs.Lines.{prefix_of}
 unfoldable pub after : List ℕ → List ℕ → Option (List ℕ)
 after word line = if bytes_eq (take (length word) line) word then Some (drop (length word) line) else None
 
--- `size_of most text`: the number that `text`, 1 to `most` decimal digits, writes; None for any
+-- `size_of most text`: the number that `text` writes with 1 to `most` decimal digits; None for any
 -- other text, and for a leading zero before further digits
 unfoldable pub size_of : ℕ → List ℕ → Option ℕ
 size_of most text = if nat_lt 1 (length text) && slice_index text 0 == 48 then None else digits_of most text
@@ -139,8 +139,9 @@ second_kind Turn = Low
 second_kind Slack = EbbBegins
 second_kind Mark = MarkFalling
 
--- `cell_of track line`: the cell that a line such as `s`, `q 1024` or `t low -1000000` gives, or
--- None if the line isn't a cell that this track may have
+-- `cell_of track line`: the cell on the line: `q` and 2 to 1,024 minutes without an event, `s` for
+-- one such minute, or an event of a kind that the track lists with its level, in millionths of the
+-- station's unit, such as `t low -1000000`; None for any other line
 unfoldable pub cell_of : TrackName → List ℕ → Option Cell
 cell_of track line =
     if bytes_eq line (codes "s") then Some cells.Still
