@@ -19,7 +19,7 @@ use curve_law::{Cell, Cells, Curve, Point, Verdict, approximate_point_at};
 /// The caller ensures that `begin` and `end` are both minutes of `curve` and `begin` isn't after
 /// `end`, that there are fewer than 2^32 cells, and that the cells and the earlier evaluations of
 /// the curve together number at most 2^62. The call evaluates the curve at most once per cell, plus
-/// once.
+/// once, and nothing else about it changes.
 ///
 /// # Examples
 /// ```

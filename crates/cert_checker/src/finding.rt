@@ -12,9 +12,10 @@ use curve_law::{
     unit_cell_from_approximate,
 };
 
-/// Returns the verdict on `cell`, which has the number `number`, counted from 1. `at` is its first
-/// minute with the curve's approximate value at it, and `end_value` is the approximate value at the
-/// cell's end.
+/// Returns the verdict on `cell`, the cell with the number `number`, counted from 1: whether its
+/// claim about its minutes is true of the curve. `at` is its first minute with the curve's
+/// approximate value at it, and `end_value` is the approximate value at the minute after its last;
+/// the exact values are used only if these don't decide.
 #[tactic(auto, using(crate::proofs::FindingLemmas::findings))]
 pub fn finding_on<C: Curve>(
     curve: &C,

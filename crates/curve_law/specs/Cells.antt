@@ -5,7 +5,7 @@ use Rattle.curve_law.specs.declared.cell.Cell.{Cell}
 use Rattle.curve_law.specs.declared.cell.Cell.TheVariants.{Quiet, Still, Turn}
 use Rattle.curve_law.specs.declared.event.Event.{Event}
 
--- the number of minutes of a cell
+-- the number of minutes of a cell: n for a quiet cell of n minutes, otherwise 1
 abbrev pub minutes_of : Cell → ℕ
 minutes_of (Quiet n) = n
 minutes_of Still = 1
@@ -23,7 +23,8 @@ event_in a (Quiet n) = []
 event_in a Still = []
 event_in a (Turn kind level) = record { minute = a; kind = kind; level = level } ∷ []
 
--- the events in a list of cells without gaps, of which the first cell begins at minute `a`
+-- `cell_events a cells`: the events that a list of cells claims, one for each `Turn`, in order of
+-- time; the first cell begins at minute `a`, and each other cell at the end of the one before it
 unfoldable pub cell_events : ℤ → List Cell → List Event
 cell_events a [] = []
 cell_events a (cell ∷ cells) = event_in a cell ++ cell_events (a +ℤ pos (minutes_of cell)) cells

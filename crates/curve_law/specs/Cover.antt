@@ -19,14 +19,16 @@ keeps_side (Some rate) n v w =
     (int_lt (pos 0) v && int_lt (pos 0) w && int_lt (rate *ℤ pos n) (v +ℤ w))
     || (int_le v (pos 0) && int_le w (pos 0) && int_le (rate *ℤ pos n) (neg_ℤ (v +ℤ w)))
 
--- `is_quiet c a n`: true if the n minutes from minute `a` on can be one quiet cell of the curve c:
--- n is from 2 to 1,024, the curve has a rate (a bound on its change in a minute) for them, and by
--- this rate and the values at `a` and at `a + n` the value can't cross 0 between these minutes
+-- `is_quiet c a n`: true if the n minutes from minute `a` on can be one quiet cell (a cell without
+-- an event) of the curve c: n is from 2 to 1,024, the curve has a rate (a bound on its change in a
+-- minute) for them, and the values at `a` and at `a + n` are on one side of 0, too far from it for
+-- the value to cross 0 between them at this rate
 unfoldable pub is_quiet : CurveSpec → ℤ → ℕ → Bool
 is_quiet c a n =
     nat_le 2 n && nat_le n MOST_MINUTES && keeps_side (c.rate a n) n (c.track.value a) (c.track.value (a +ℤ pos n))
 
--- the cell of the single minute `a`: with the event after it, or without one
+-- the cell of the single minute `a`: if the value crosses 0 after this minute, `Turn` with the kind
+-- and the level of this event, otherwise `Still`
 unfoldable pub unit_cell : Track → ℤ → Cell
 unit_cell t a = if has_event t a then Turn (event_at t a).kind (t.note a) else Still
 
@@ -35,13 +37,15 @@ unit_cell t a = if has_event t a then Turn (event_at t a).kind (t.note a) else S
 abbrev pub cell_of : CurveSpec → Interval → Cell
 cell_of c piece = if nat_le piece.minutes 1 then unit_cell c.track piece.begin else Quiet piece.minutes
 
--- the cells of a block of n minutes from minute `a` on: one quiet cell if the block can be one, or
--- the cell of a single minute, or else the cells of its two halves, the first half (n / 2 minutes,
--- rounded down) first
+-- `split c a n`: the cells of a block of n minutes from minute `a` on: one quiet cell if the block
+-- can be one (`is_quiet`: no event is possible in it), the cell of the minute if n is 1, or else
+-- the cells of the first half (n / 2 minutes, rounded down) and then those of the rest
 unfoldable pub split : CurveSpec → ℤ → ℕ → List Cell
 split c a n = map (cell_of c) (pieces_of_block (is_quiet c) a n)
 
--- the cells of the span of n minutes from minute `a` on: the span is cut from its beginning into
--- blocks of 1,024 minutes, of which the last may be shorter, and each block into its cells
+-- `cover c a n`: the cells of the span of n minutes from minute `a` on: the span is cut from its
+-- beginning into blocks of 1,024 minutes (the last may be shorter), and each block is halved again
+-- and again, until each part can be one quiet cell (`is_quiet`: no event is possible in it) or is a
+-- single minute
 unfoldable pub cover : CurveSpec → ℤ → ℕ → List Cell
 cover c a n = map (cell_of c) (pieces_of (is_quiet c) a n)

@@ -4,10 +4,10 @@ use Rattle.std.specs.Prelude.{◌≡◌, ℕ, ◌*◌, ◌^◌, ◌<◌, ◌≤�
 use Rattle.curve_law.specs.declared.quiet.TheConstants.{MOST_MINUTES}
 use Rattle.curve_law.specs.Track.{Track}
 
--- a curve: its first and last minute, since 1970-01-01T00:00Z; its track, which counts between
--- these minutes; and `rate a n`, which is at least as great as the change of its value from each of
--- the n minutes from minute `a` on to the next (None: no such bound). That the rate is a bound is
--- said by `IsLawful`.
+-- a curve: its first and last minute, since 1970-01-01T00:00Z; its track, whose values matter only
+-- from the first to the last minute; and its rates: `rate a n` bounds the change of the value from
+-- each of the n minutes from minute `a` on to the next (None: there is no such bound). The record
+-- doesn't ensure that the rates are true; `IsLawful` does.
 pub record CurveSpec : Type 0 where
   pub first : ℤ
   pub last : ℤ
@@ -47,9 +47,10 @@ pub record IsRate (c : CurveSpec) (a : ℤ) (n : ℕ) (rate : ℤ) : Type 0 wher
   pub steps : (k : ℕ) → k < n →
       pos (unsigned_abs (c.track.value (a +ℤ pos k +ℤ pos 1) -ℤ c.track.value (a +ℤ pos k))) ≤ℤ rate
 
--- the curve is lawful: its first minute isn't after its last, both are at most 2^60 in size, its
--- values at its minutes are below 10^37 in size, and each rate that it has for a cell (1 to 1,024
--- minutes) bounds the change of the value in each minute of the cell
+-- `IsLawful c`: the bounds of the curve c are true: the first minute isn't after the last, both are
+-- at most 2^60 in size, the values at the curve's minutes are below 10^37 in size, and if the curve
+-- has a rate for 1 to 1,024 consecutive minutes of it, its value changes by at most this rate from
+-- each of them to the next, and 1,024 times the rate is below 5 * 10^37
 pub record IsLawful (c : CurveSpec) : Type 0 where
   pub forward : c.first ≤ℤ c.last
   pub early : neg_ℤ (pos (2 ^ 60)) ≤ℤ c.first
@@ -57,6 +58,7 @@ pub record IsLawful (c : CurveSpec) : Type 0 where
   pub values : (m : ℤ) → IsMinute c m → unsigned_abs (c.track.value m) < 10 ^ 37
   pub rates : (a : ℤ) (n : ℕ) (rate : ℤ) → IsCell c a n → c.rate a n ≡ Some rate → IsRate c a n rate
 
--- the curve c with the first minute `first` and the last minute `last`, otherwise the same
+-- `at_minutes first last c`: a curve that has the same values, levels and rates as the curve c, but
+-- has the first minute `first` and the last minute `last`
 abbrev pub at_minutes : ℤ → ℤ → CurveSpec → CurveSpec
 at_minutes first last c = record c { first = first; last = last }

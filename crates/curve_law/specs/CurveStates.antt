@@ -16,6 +16,7 @@ pub record CurveState : Type 0 where
   pub curve_model : CurveModel
   pub count : ℕ
 
--- the state after one more evaluation, with the same facts
+-- the state of a curve after one more evaluation: the number of its evaluations is 1 greater, and
+-- nothing else has changed
 abbrev pub evaluated_once : CurveState → CurveState
 evaluated_once s = record s { count = s.count + 1 }

@@ -7,8 +7,9 @@ use Rattle.curve_law.specs.CurveSpec.{CurveSpec}
 use Rattle.curve_law.specs.CurveStates.{CurveModel}
 
 -- `line start falls rate`: a curve for tests over the minutes from -1,000,000 to 1,000,000: its
--- value is `start` at minute 0 and rises by 1 each minute, or falls by 1 if `falls` is true; the
--- level at a minute is the minute's number, and `rate` is the bound on its change in any minute
+-- value is `start` at minute 0 and rises by 1 each minute, or falls by 1 if `falls` is true. An
+-- event where it rises past 0 has the kind `Low`, where it falls to 0 `High`; its level is the
+-- minute's number. `rate` is the bound on the change in a minute.
 abbrev pub line : ℤ → Bool → ℤ → CurveSpec
 line start falls rate = record {
   first = negsuc 999999;
@@ -27,7 +28,8 @@ line_model start falls rate = record {
 }
 
 -- a curve for tests over the minutes from -1,000,000 to 1,000,000: its value is 1 at even minutes
--- and -1 at odd ones, its levels are 0, and it has no bound on its change
+-- and -1 at odd ones, so there is an event after each minute, with the level 0. It has no bound on
+-- its change.
 abbrev pub ripple : CurveSpec
 ripple = record {
   first = negsuc 999999;

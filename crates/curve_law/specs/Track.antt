@@ -4,9 +4,10 @@ use Rattle.std.specs.Prelude.{ℕ, zero, suc, ℤ, pos, ◌+ℤ◌, Bool, not, i
 use Rattle.curve_law.specs.declared.kind.Kind.{Kind}
 use Rattle.curve_law.specs.declared.event.Event.{Event}
 
--- a track: the value at each minute; `note`, the level in millionths of the station's unit that an
--- event after each minute has; and the kinds of the events at which the value rises above 0 and
--- falls to 0 or below
+-- a track: `value`, which crosses 0 once for each event; `note`, the level (in millionths of the
+-- station's unit) with which an event after each minute is listed; and two kinds of events:
+-- `rising` where the value rises from 0 or below to above 0, and `falling` where it falls to 0 or
+-- below
 pub record Track : Type 0 where
   pub value : ℤ → ℤ
   pub note : ℤ → ℤ
@@ -33,7 +34,7 @@ unfoldable pub minutes : ℤ → ℕ → List ℤ
 minutes a zero = []
 minutes a (suc n) = a ∷ minutes (a +ℤ pos 1) n
 
--- the events of the span of n minutes from minute `a` on, in order of time, by looking at each of
--- them
+-- `plain_list t a n`: the events of the track t after the n minutes from minute `a` on, in order of
+-- time, found by looking at the value at each of these minutes and at the next
 unfoldable pub plain_list : Track → ℤ → ℕ → List Event
 plain_list t a n = map (event_at t) (filter (has_event t) (minutes a n))

@@ -36,7 +36,9 @@ step_verdict c a number kind level =
     else WrongStep number
 
 -- the verdict on the cell with this number, counted from 1, that begins at minute `a` of the curve
--- `c`
+-- c: NotQuiet if it is claimed to be quiet and can't be by the curve's rate; WrongStep if it is one
+-- minute and misses the event after it, or claims one that isn't there or has another kind;
+-- WrongLevel if the event has another level; otherwise Accepted
 unfoldable pub cell_verdict : CurveSpec → ℤ → ℕ → Cell → Verdict
 cell_verdict c a number (Quiet n) = if is_quiet c a n then Accepted else NotQuiet number
 cell_verdict c a number Still = if has_event c.track a then WrongStep number else Accepted
@@ -57,9 +59,10 @@ cells_verdict c a number [] = Accepted
 cells_verdict c a number (cell ∷ cells) =
     or_next (cell_verdict c a number cell) (cells_verdict c (a +ℤ pos (minutes_of cell)) (suc number) cells)
 
--- the verdict on a list of cells for the span of n minutes from minute `a` on: WrongLength if the
--- cells don't have n minutes together, otherwise the first fault of a cell, or Accepted; cells are
--- counted from 1
+-- the verdict on a list of cells for the span of n minutes from minute `a` on: WrongLength if they
+-- don't have n minutes together; otherwise the first fault, with the cell's number, counted from 1:
+-- NotQuiet (by the curve's rate it can't be quiet), WrongStep (one minute, with a missed or wrong
+-- event) or WrongLevel (an event with another level); Accepted if there is none
 unfoldable pub verdict : CurveSpec → ℤ → ℕ → List Cell → Verdict
 verdict c a n cells =
     if all_minutes cells == n then cells_verdict c a 1 cells

@@ -61,8 +61,9 @@ pub fn covers_are_accepted()
         cell_events a (cover c a n) ≡ plain_list c.track a n }
 {}
 
-/// Proves that the cells of a span and the verdicts on cells are the same for two curves that
-/// differ only in their first and last minute.
+/// Proves for two curves that have the same values, levels and rates, and differ only in their
+/// first and last minute: a span has the same cells (`cover`) for both, and the verdict on any list
+/// of cells is the same.
 pub fn answers_are_those_of_more_minutes()
     ensures cells { (c : CurveSpec) (first last a : ℤ) (n : ℕ) → cover (at_minutes first last c) a n ≡ cover c a n }
     ensures verdicts { (c : CurveSpec) (first last a : ℤ) (n : ℕ) (cells : List Cell) →

@@ -5,8 +5,9 @@ ghost use Rattle.std.specs.Prelude.{◌≡◌};
 use crate::cell::Cell;
 use std::marker::Model;
 
-/// A list of cells of one track, in order of time and without gaps (a cell is some consecutive
-/// minutes, and which event is after them). In contracts its value is the list of the cells.
+/// A list of cells of one track, in order of time and without gaps. A cell is some consecutive
+/// minutes with the claim that no event is after them, or one minute with the event after it. In
+/// contracts its value is the list of the cells.
 #[derive(Drop)]
 pub struct Cells {
     items: Vec<Cell>,

@@ -25,8 +25,8 @@ pub trait Curve {
     fn last(&self) -> i64
         ensures { result ≡ (state self.now).curve_model.curve_spec.last };
 
-    /// Returns the value at minute `m`, a minute of the curve. The value is below 10^37 in size.
-    /// The call counts as an evaluation; fewer than 2^63 were made before.
+    /// Returns the value at minute `m`, a minute of the curve, in the curve's own unit. It is below
+    /// 10^37 in size. The call counts as an evaluation; fewer than 2^63 were made before.
     fn value(&mut self, m: i64) -> i128
         requires minute { IsMinute (state self.old).curve_model.curve_spec m }
         requires count_bound { (state self.old).count < 2 ^ 63 }
@@ -42,8 +42,9 @@ pub trait Curve {
         ensures value { result ≡ (state self.old).curve_model.approximate m }
         ensures after { state self.new ≡ evaluated_once (state self.old) };
 
-    /// Returns the value at minute `m`, a minute of the curve; `approximate_value` is the result of
-    /// [`Curve::approximate_value`] for this minute. The call doesn't count as an evaluation.
+    /// Returns the exact value at minute `m`, a minute of the curve, from the approximate one:
+    /// `approximate_value` is the result of [`Curve::approximate_value`] for this minute. The call
+    /// doesn't count as an evaluation.
     fn exact_value(&self, m: i64, approximate_value: i128) -> i128
         requires minute { IsMinute (state self.now).curve_model.curve_spec m }
         requires approximate { approximate_value ≡ (state self.now).curve_model.approximate m }
@@ -54,16 +55,16 @@ pub trait Curve {
     fn error(&self) -> i128
         ensures { result ≡ pos (state self.now).curve_model.error };
 
-    /// Returns the curve's rate for the `n` minutes from minute `a` on: a number that is at least
-    /// as great as the change of the value from each of these minutes to the next. `n` is from 1 to
-    /// 1,024, and `a` and `a + n` are minutes of the curve. 1,024 times the rate is below
-    /// 5 * 10^37. `None` if the curve has no such bound there.
+    /// Returns a bound on the change of the value in a minute: from each of the `n` minutes from
+    /// minute `a` on to the next, the value changes by at most the result. `n` is from 1 to 1,024,
+    /// and `a` and `a + n` are minutes of the curve. 1,024 times the result is below 5 * 10^37.
+    /// `None` if the curve has no such bound there.
     fn rate(&self, a: i64, n: u32) -> Option<i128>
         requires { IsCell (state self.now).curve_model.curve_spec a n }
         ensures { result ≡ (state self.now).curve_model.curve_spec.rate a n };
 
-    /// Returns the level, in millionths of the station's unit, of an event after minute `m`, a
-    /// minute of the curve. The minute need not have an event.
+    /// Returns the level, in millionths of the station's unit, with which an event after minute
+    /// `m`, a minute of the curve, is listed. The minute need not have an event.
     fn note(&self, m: i64) -> i64
         requires { IsMinute (state self.now).curve_model.curve_spec m }
         ensures { result ≡ (state self.now).curve_model.curve_spec.track.note m };

@@ -5,7 +5,8 @@ ghost use Rattle.std.specs.Prelude.{◌≡◌};
 use crate::event::Event;
 use std::marker::Model;
 
-/// A list of events. In contracts its value is the list of the events.
+/// A list of events of a station, each with its minute, kind and level, such as a high water. In
+/// contracts its value is the list of the events.
 #[derive(Drop)]
 pub struct Events {
     items: Vec<Event>,

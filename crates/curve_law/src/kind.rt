@@ -1,6 +1,7 @@
 //! The kinds of events.
 
-/// The kind of an event. Events at the same minute are listed in the order of these variants.
+/// The kind of an event: a high or low water, a slack water, or a crossing of a mark. Events at the
+/// same minute are listed in the order of these variants.
 #[derive(Clone, Copy, Debug, PartialEq, Eq)]
 pub enum Kind {
     /// A high water, or the greatest stream of a current: the level stops rising.

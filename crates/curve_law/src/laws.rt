@@ -22,7 +22,8 @@ pub fn plain_list_of_two_spans()
         plain_list t a (n + k) ≡ plain_list t a n ++ plain_list t (a +ℤ pos n) k }
 {}
 
-/// Proves that a span has no events if no event is after any of its minutes.
+/// Proves that the list of the events of a span (`plain_list`) is empty if no event is after any of
+/// its minutes.
 pub fn plain_list_of_quiet_minutes()
     ensures { (t : Track) (a : ℤ) (n : ℕ) →
         ((k : ℕ) → k < n → has_event t (a +ℤ pos k) ≡ false) → plain_list t a n ≡ [] }

@@ -6,7 +6,8 @@ ghost use Rattle.curve_law.specs.CurveStates.{evaluated_once};
 
 use crate::curve::Curve;
 
-/// A minute, and the value of a curve at it, exact or approximate.
+/// A minute, since 1970-01-01T00:00Z, and the value of a curve at it, exact or approximate, in the
+/// curve's own unit.
 #[derive(Clone, Copy, Default)]
 pub struct Point {
     /// The minute, since 1970-01-01T00:00Z.
@@ -15,8 +16,8 @@ pub struct Point {
     pub value: i128,
 }
 
-/// Returns `minute`, a minute of the curve, with the exact value of `curve` at it. The call counts
-/// as one evaluation; fewer than 2^63 were made before.
+/// Evaluates `curve` exactly at `minute`, one of its minutes, and returns the point of this minute
+/// and the value. The call counts as one evaluation; fewer than 2^63 were made before.
 pub fn point_at<C: Curve>(curve: &mut C, minute: i64) -> Point
     requires minute { IsMinute (C.state curve.old).curve_model.curve_spec minute }
     requires count_bound { (C.state curve.old).count < 2 ^ 63 }
@@ -29,8 +30,9 @@ pub fn point_at<C: Curve>(curve: &mut C, minute: i64) -> Point
     }
 }
 
-/// Returns `minute`, a minute of the curve, with the approximate value of `curve` at it. The call
-/// counts as one evaluation; fewer than 2^63 were made before.
+/// Evaluates `curve` approximately at `minute`, one of its minutes, and returns the point of this
+/// minute and the approximate value. The call counts as one evaluation; fewer than 2^63 were made
+/// before.
 #[inline(always)]
 pub fn approximate_point_at<C: Curve>(curve: &mut C, minute: i64) -> Point
     requires minute { IsMinute (C.state curve.old).curve_model.curve_spec minute }

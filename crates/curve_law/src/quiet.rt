@@ -9,8 +9,8 @@ use crate::cell::Cell;
 use crate::curve::Curve;
 use crate::passing::kind_after;
 
-/// The greatest number of minutes of a quiet cell, and the length of the blocks that a span of time
-/// is cut into.
+/// The greatest number of minutes of a quiet cell (consecutive minutes with no event after any of
+/// them), and the length of the blocks that a span of time is cut into before they are halved.
 pub const MOST_MINUTES: u32 = 1024;
 
 /// Returns true if the `n` minutes from minute `a` on can be one quiet cell: `n` is from 2 to

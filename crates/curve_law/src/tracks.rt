@@ -2,9 +2,10 @@
 
 use crate::cells::Cells;
 
-/// The cells of a station's tracks over one span of time: of its high and low waters, and, if they
-/// are requested, of its slack waters and of the crossings of a mark (a level that the request
-/// names).
+/// The cells of a station over one span of time, one list for each kind of question: for its high
+/// and low waters, and, if they are requested, for its slack waters and for the crossings of a mark
+/// (a level that the request names). A cell is some consecutive minutes with no event after them,
+/// or one minute with the event after it.
 #[derive(Drop)]
 pub struct Tracks {
     /// The cells of the high and low waters, or for a current of its greatest and least streams.

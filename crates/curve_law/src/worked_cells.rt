@@ -113,7 +113,8 @@ pub fn worked_verdicts()
     ensures no_minute { verdict ripple (pos 0) 0 [] ≡ Verdict.Accepted }
 {}
 
-/// Proves that a quiet cell has at most 1,024 minutes, which is also the length of a block.
+/// Proves that a quiet cell (consecutive minutes with no event after any of them) has at most 1,024
+/// minutes, and that a block, which a span of time is cut into, has as many.
 pub fn worked_limits()
     ensures minutes { MOST_MINUTES ≡ 1024 }
 {}

@@ -42,8 +42,9 @@ span_minutes s = unsigned_abs (s.end -ℤ s.begin)
 
 -- ---- the events of the requested curves
 
--- the curves of a station's requested tracks: of high and low waters (`turn`), of slack waters, and of
--- crossings of a mark
+-- the curves whose zero crossings are a station's requested events: the high and low waters
+-- (`turn`), and, if they are requested, the slack waters and the crossings of a mark, which is a
+-- level that the request names
 pub record Followed : Type 0 where
   pub turn : CurveSpec
   pub slack : Option CurveSpec
@@ -57,26 +58,30 @@ curves_of f = f.turn ∷ (option_to_list f.slack ++ option_to_list f.mark)
 abbrev pub events_over : Span → CurveSpec → List Event
 events_over s c = plain_list c.track s.begin (span_minutes s)
 
--- The events of a station from `begin` up to but not including `end`, sorted by minute, then by kind,
--- then by level. They are the events of the reference station's curves `f` over the span `widened_of`,
--- each moved and scaled by the offset that the basis `b` has for its kind, if the moved minute is in
--- the station's span.
+-- `station_events f b begin end`: the events of a station from `begin` up to but not including
+-- `end`, sorted by minute, then by kind, then by level. They are made from the events of its
+-- reference station's curves `f`, over the span `widened_of`, which determines them: each is moved
+-- and scaled by the offset that `b` (the reference and the offsets from it) has for its kind, and
+-- is kept if the moved minute is in the station's span.
 unfoldable pub station_events : Followed → Basis → ℤ → ℤ → List Event
 station_events f b begin end =
     ordered (moved_within b begin end (flat_map (events_over (widened_of b begin end)) (curves_of f)))
 
 -- ---- the events in cells
 
--- the cells of each track that is present, as a list
+-- the lists of cells that are present in `t`: of high and low waters, slack waters, and crossings
+-- of a mark
 abbrev pub tracks_of : Tracks → List (List Cell)
 tracks_of t = t.turn ∷ (option_to_list t.slack ++ option_to_list t.mark)
 
--- the events in the cells of all tracks, sorted by minute, then by kind, then by level; the first cell
--- of each track begins at the minute `begin`
+-- `merged_of begin t`: the events in all cells of `t` (the cells of high and low waters, of slack
+-- waters and of crossings of a mark), sorted by minute, then by kind, then by level; each list of
+-- cells begins at the minute `begin`
 unfoldable pub merged_of : ℤ → Tracks → List Event
 merged_of begin t = ordered (flat_map (cell_events begin) (tracks_of t))
 
--- the number of cells of all tracks of `t` together
+-- the number of cells of `t` in all: of its high and low waters, slack waters and crossings of a
+-- mark
 unfoldable pub cells_in : Tracks → ℕ
 cells_in t = sum_by length (tracks_of t)
 
@@ -85,7 +90,8 @@ cells_in t = sum_by length (tracks_of t)
 abbrev pub cover_over : Span → CurveSpec → List Cell
 cover_over s c = cover c s.begin (span_minutes s)
 
--- the cells of each requested curve over the span, made by halving blocks of minutes
+-- `covers_of f s`: the cells of each requested curve of `f` over the span `s`, made by halving
+-- blocks of minutes until a part can have no event by the curve's rate or is a single minute
 abbrev pub covers_of : Followed → Span → Tracks
 covers_of f s = record {
   turn = cover_over s f.turn;
@@ -93,27 +99,28 @@ covers_of f s = record {
   mark = option_map (cover_over s) f.mark;
 }
 
--- the number of cells of all requested curves over the span, if the cells are made by halving blocks of
--- minutes
+-- the number of cells of all requested curves over the span: its blocks of minutes are halved until
+-- a part can have no event by the curve's rate or is a single minute, and each part is one cell
 unfoldable pub cell_count : Followed → Span → ℕ
 cell_count f s = cells_in (covers_of f s)
 
 -- ---- properties of curves and cells
 
--- the cells of each track have at most 6,000,000 minutes together
+-- the cells of each of the tracks of `t` (high and low waters, slack waters, and crossings of a
+-- mark) have at most 6,000,000 minutes together, somewhat more than 11 years
 pub record AreShort (t : Tracks) : Type 0 where
   pub turn : all_minutes t.turn ≤ 6000000
   pub slack : ForSome t.slack (λ cells. all_minutes cells ≤ 6000000)
   pub mark : ForSome t.mark (λ cells. all_minutes cells ≤ 6000000)
 
--- the curve is lawful (its values are below 10^37 in size and change by at most its rate), and its
--- minutes include the span `s` and the span's end
+-- the curve is lawful (its values are below 10^37 in size, and from each minute to the next they
+-- change by at most its rate), and the span `s` and the span's end are within its minutes
 pub record IsValidOver (s : Span) (c : CurveSpec) : Type 0 where
   pub lawful : IsLawful c
   pub span : IsSpan c s.begin (span_minutes s)
 
--- each requested curve is lawful (its values are below 10^37 in size and change by at most its rate),
--- and its minutes include the span `s` and the span's end
+-- each requested curve is lawful (its values are below 10^37 in size, and from each minute to the
+-- next they change by at most its rate), and the span `s` and the span's end are within its minutes
 pub record AreValidOver (f : Followed) (s : Span) : Type 0 where
   pub turn : IsValidOver s f.turn
   pub slack : ForSome f.slack (IsValidOver s)
@@ -131,16 +138,17 @@ pub record AllHaveLevels (f : Followed) : Type 0 where
   pub slack : ForSome f.slack HasLevels
   pub mark : ForSome f.mark HasLevels
 
--- a track is present exactly if its curve is requested, and the check of its cells over the span `s`
--- accepts them
+-- cells are present exactly if their curve is requested, and then the verdict on them for the span
+-- `s` is Accepted: they have as many minutes as the span, and the claim of each cell is true
 abbrev pub IsAccepted : Span → Option CurveSpec → Option (List Cell) → Type 0
 IsAccepted s None None = Unit {0}
 IsAccepted s None (Some cells) = ⊥
 IsAccepted s (Some c) None = ⊥
 IsAccepted s (Some c) (Some cells) = verdict c s.begin (span_minutes s) cells ≡ Accepted
 
--- the tracks of `t` are the requested ones, and the check of the cells of each over the span `s`
--- accepts them
+-- `AreAccepted f s t`: `t` has cells for exactly the requested curves of `f`, and the verdict on
+-- each curve's cells for the span `s` is Accepted: they have as many minutes as the span, and the
+-- claim of each cell is true
 pub record AreAccepted (f : Followed) (s : Span) (t : Tracks) : Type 0 where
   pub turn : verdict f.turn s.begin (span_minutes s) t.turn ≡ Accepted
   pub slack : IsAccepted s f.slack t.slack
@@ -151,7 +159,8 @@ pub record IsNamed (units : Units) (c : CurveSpec) : Type 0 where
   pub rising : IsTrue (has_word units c.track.rising)
   pub falling : IsTrue (has_word units c.track.falling)
 
--- in this unit the events of all requested curves have names
+-- in this unit the events of each requested curve have names, those where its value rises above 0
+-- and those where it falls to 0
 pub record AreNamed (units : Units) (f : Followed) : Type 0 where
   pub turn : IsNamed units f.turn
   pub slack : ForSome f.slack (IsNamed units)

@@ -11,8 +11,8 @@ use Rattle.event_list.specs.Order.{comes_before}
 
 -- ---- the state of a merge's searches
 
--- the state of a search in a merge: its pending event, which was found but not yet returned, the minute
--- that it has reached, and its remaining cells
+-- the state of a search whose events are merged with others: its next event if it was found but not
+-- yet returned (the pending event), the minute that it has reached, and its remaining cells
 pub record Pending : Type 0 where
   pub found : Option Event
   pub at : ℤ
@@ -28,8 +28,9 @@ abbrev pub cells_of : {C : Type 0} → Option (Looking C) → List Cell
 cells_of None = []
 cells_of (Some search) = search.remaining
 
--- the state of a search in a merge with the pending event `found` (found but not yet returned); without
--- a search, the minute 0 and no remaining cells
+-- `pending found search`: the state of a search whose events are merged with others: the event
+-- `found`, found but not yet returned (None: no such event), the minute that the search has
+-- reached, and its remaining cells; without a search, the minute 0 and no cells
 abbrev pub pending : {C : Type 0} → Option Event → Option (Looking C) → Pending
 pending found search = record { found = found; at = minute_of search; cells = cells_of search }
 
@@ -39,7 +40,7 @@ pub record AllWaiting : Type 0 where
   pub slack : Pending
   pub mark : Pending
 
--- the number of remaining cells of the three searches together
+-- the number of cells that the three searches of a merge have yet to return, together
 abbrev pub cells_to_come : AllWaiting → ℕ
 cells_to_come w = length w.turn.cells + length w.slack.cells + length w.mark.cells
 
@@ -63,12 +64,14 @@ abbrev pub looked_event : Option Event → Pending → Pending
 looked_event None w = searched w.at w.cells
 looked_event (Some event) w = w
 
--- the state of a search after it has advanced to its next event; unchanged if it has a pending event
--- (found but not yet returned)
+-- the state of a search after a look at its next event: if it has no pending event (found but not
+-- yet returned), it advances past the next cell with an event, which is then pending, or past all
+-- its cells; otherwise it is unchanged
 abbrev pub looked : Pending → Pending
 looked w = looked_event w.found w
 
--- the state of a search after its pending event was returned; the search hasn't advanced
+-- the state of a search after its pending event (found but not yet returned) was returned: it has
+-- no pending event now, and the search hasn't advanced
 abbrev pub without_event : Pending → Pending
 without_event w = record { found = None; at = w.at; cells = w.cells }
 
@@ -78,8 +81,9 @@ leads a None = true
 leads None (Some e) = false
 leads (Some d) (Some e) = not (comes_before e d)
 
--- the track with the first event in listing order among the next events of three tracks, of equal
--- events the earlier track's; Turn if there are no events
+-- the track (high and low waters, slack waters or crossings of a mark) with the first of three next
+-- events in listing order: by minute, then by kind, then by level. Of equal events it is the
+-- earlier argument's; `Turn` if there are no events.
 abbrev pub leading : Option Event → Option Event → Option Event → Leading
 leading turn slack mark =
     if leads turn slack
@@ -92,8 +96,9 @@ given_from leadings.Turn w = record { turn = without_event w.turn; slack = w.sla
 given_from leadings.Slack w = record { turn = w.turn; slack = without_event w.slack; mark = w.mark }
 given_from leadings.Mark w = record { turn = w.turn; slack = w.slack; mark = without_event w.mark }
 
--- the states of the three searches after a step of their merge: each search without a pending event
--- advances to its next event, and the first of the pending events is returned
+-- the states of the three searches of a merge after one step: each search without a pending event
+-- (found but not yet returned) advances to its next event, and then the first of the pending events
+-- in listing order is returned and is no longer pending
 abbrev pub stepped : AllWaiting → AllWaiting
 stepped w =
     given_from (leading (looked w.turn).found (looked w.slack).found (looked w.mark).found)
@@ -114,12 +119,14 @@ abbrev pub cells_left : {C : Type 0} → Option (Looking C) → Option (List Cel
 cells_left None = None
 cells_left (Some search) = Some search.remaining
 
--- the remaining cells of three searches, one for each track; a track without a search is absent
+-- the remaining cells of the searches for high and low waters, slack waters and crossings of a
+-- mark; if there is no search, there are no cells of this track
 abbrev pub tracks_left : {A B : Type 0} → Looking A → Option (Looking B) → Option (Looking B) → Tracks
 tracks_left turn slack mark = record { turn = turn.remaining; slack = cells_left slack; mark = cells_left mark }
 
--- a step takes a merge from `old` to `new`, and returns the first of the remaining events, or None if
--- no event remains and the searches have returned all their cells
+-- `ReturnsNext old result new`: a step takes a merge from the state `old` to `new`, and returns the
+-- first of the remaining events; or it returns None, no event remains, and the searches have
+-- returned all their cells
 abbrev pub ReturnsNext : Merging → Option Event → Merging → Type 0
 ReturnsNext old None new = (old.remaining ≡ []) × (new.remaining ≡ []) × (new.cells ≡ new.all)
 ReturnsNext old (Some event) new = old.remaining ≡ event ∷ new.remaining

@@ -4,8 +4,9 @@ use Rattle.std.specs.Ordering.{int_eq}
 use Rattle.curve_law.specs.declared.event.Event.{Event}
 use Rattle.curve_law.specs.Verdicts.{rank_of_kind}
 
--- the event `d` is listed before `e`: at an earlier minute, or at the same minute with a kind of lower
--- rank, or with the same minute and kind at a lower level
+-- the event `d` is listed before `e`: it is at an earlier minute; or at the same minute with a kind
+-- of lower rank (`High`, `Low`, `FloodBegins`, `EbbBegins`, `MarkRising`, `MarkFalling`, in this
+-- order); or at the same minute with the same kind and a lower level
 abbrev pub comes_before : Event → Event → Bool
 comes_before d e =
     int_lt d.minute e.minute

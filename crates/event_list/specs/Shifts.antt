@@ -36,8 +36,9 @@ use Rattle.station_table.specs.Offsets.{IsOffset, IsSlack}
 use Rattle.event_list.specs.declared.span.Span.{Span}
 use Rattle.event_list.specs.Order.{ordered}
 
--- the offsets of a basis are in the ranges of a table: minutes from -1,440 to 1,440, factors from 1 to
--- 100,000,000 millionths, and heights from -10,000,000,000 to 10,000,000,000 millionths
+-- the offsets of a basis (a station's reference and the offsets from it) are in their ranges:
+-- minutes from -1,440 to 1,440, factors from 1 to 100,000,000 millionths, and heights from
+-- -10,000,000,000 to 10,000,000,000 millionths of the unit
 pub record HasOffsets (b : Basis) : Type 0 where
   pub high : IsOffset b.high
   pub low : IsOffset b.low
@@ -61,9 +62,10 @@ greatest_add b = fold int_max b.high.add (b.low.add ∷ slack_adds b.slack)
 abbrev pub least_add : Basis → ℤ
 least_add b = fold int_min b.high.add (b.low.add ∷ slack_adds b.slack)
 
--- the reference station's span that determines all events of a station from `begin` up to but not
--- including `end`: `begin` and `end`, earlier by the greatest and by the least number of minutes that
--- the basis adds to an event's time
+-- `widened_of b begin end`: the span of the reference station that determines all events of a
+-- station from `begin` up to but not including `end`: it begins at `begin` minus the greatest
+-- number of minutes that an offset of `b` adds to an event's time, and ends at `end` minus the
+-- least
 abbrev pub widened_of : Basis → ℤ → ℤ → Span
 widened_of b begin end = record { begin = begin -ℤ greatest_add b; end = end -ℤ least_add b }
 
@@ -97,7 +99,7 @@ offset_of b MarkRising = b.high
 offset_of b MarkFalling = b.high
 
 -- the level, in millionths of the unit, multiplied by the offset's factor and rounded to a whole
--- number; then the offset's height is added
+-- number of millionths; then the offset's height is added
 abbrev pub scaled : Offset → ℤ → ℤ
 scaled offset level = rounded_of (level *ℤ offset.times) 1000000 +ℤ offset.plus
 
@@ -106,8 +108,9 @@ scaled offset level = rounded_of (level *ℤ offset.times) 1000000 +ℤ offset.p
 abbrev pub moved_by : Offset → Event → Event
 moved_by offset e = record { minute = e.minute +ℤ offset.add; kind = e.kind; level = scaled offset e.level }
 
--- the station's event for `e`, an event of its reference station: moved and scaled by the offset that
--- the basis has for its kind
+-- `moved b e`: the station's event for `e`, an event of its reference station: the offset that `b`
+-- (the reference and the offsets from it) has for its kind adds minutes to its time, multiplies its
+-- level by a factor, rounds this, and adds a height
 abbrev pub moved : Basis → Event → Event
 moved b e = moved_by (offset_of b e.kind) e
 
@@ -122,8 +125,10 @@ is_within begin end e = int_le begin e.minute && int_lt e.minute end
 abbrev pub moved_within : Basis → ℤ → ℤ → List Event → List Event
 moved_within b begin end events = filter (is_within begin end) (map (moved b) events)
 
--- the events of a station from `begin` up to but not including `end`, made from `events` of its
--- reference station by the offsets of the basis, and sorted by minute, then by kind, then by level
+-- `shifted_of b begin end events`: the events of a station from `begin` up to but not including
+-- `end`, sorted by minute, then by kind, then by level: each of `events`, events of its reference
+-- station, is moved and scaled by the offset that `b` (the reference and the offsets from it) has
+-- for its kind, and is left out if the moved minute isn't in this span
 unfoldable pub shifted_of : Basis → ℤ → ℤ → List Event → List Event
 shifted_of b begin end events = ordered (moved_within b begin end events)
 

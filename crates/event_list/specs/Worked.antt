@@ -43,18 +43,19 @@ marks = event (pos 119) MarkFalling (pos 507538) ∷ event (pos 600) MarkRising 
 
 -- ---- the stations near it
 
--- the basis of a dock: its high waters are 30 minutes later than the pier's at 1.1 times the level plus
--- 0.1 foot, and its low waters 10 minutes earlier at 0.9 times the level
+-- a dock's reference, the pier (index 0), and its offsets: high waters are 30 minutes later than
+-- the pier's, with 1.1 times the level plus 0.1 foot, and low waters 10 minutes earlier, with 0.9
+-- times the level
 abbrev pub dock : Basis
 dock = record { station = 0; row = Some 0; high = dock_high; low = dock_low; slack = None }
 
--- the basis of a gate: the offsets of the dock, and slack waters 5 minutes later before a flood and 5
--- minutes earlier before an ebb
+-- a gate's reference, the pier, and its offsets: for high and low waters those of the dock, and
+-- slack waters 5 minutes later before a flood and 5 minutes earlier before an ebb
 abbrev pub gate : Basis
 gate = record dock { slack = Some (record { flood_add = pos 5; ebb_add = negsuc 4 }) }
 
--- the basis of an outer harbour: each event is 30 minutes later than at the pier, at twice the level
--- plus 0.5 foot
+-- an outer harbour's reference, the pier, and its offsets: each event is 30 minutes later than at
+-- the pier, with twice the level plus 0.5 foot
 abbrev pub harbour : Basis
 harbour = record { station = 0; row = Some 1; high = outer; low = outer; slack = None }
 

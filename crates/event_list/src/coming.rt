@@ -43,8 +43,9 @@ impl<C: Curve> Coming<C> {
     ghost use Rattle.event_list.specs.Workings.Coming.{events_ahead, cells_ahead, first_of};
 
     /// Returns the events in the remaining cells of `search`, which may have returned cells
-    /// already; no events if `search` is `None`. The contract also says that at most 2^61 cells of
-    /// `search` remain; the caller doesn't have to ensure it.
+    /// already; no events if `search` is `None`. The result has no event pending (found but not yet
+    /// returned). The contract also says that at most 2^61 cells of `search` remain; the caller
+    /// doesn't have to ensure it.
     pub fn new(search: Option<Search<C>>) -> Coming<C>
         ensures remaining { result.remaining ≡ events_ahead search }
         ensures pending { result.pending ≡ pending None search }
@@ -60,8 +61,11 @@ impl<C: Curve> Coming<C> {
         }
     }
 
-    /// Returns the next event without removing it, or `None` if no event remains; the search has then
-    /// returned all its cells. If the next event wasn't found yet, the search advances to it.
+    /// Returns the next event without removing it, or `None` if no event remains; the search has
+    /// then returned all its cells. If the next event isn't pending (found but not yet returned),
+    /// the search advances to it, and it is pending afterwards. The cells returned since
+    /// [`Coming::new`] and the remaining ones are together the cells that the search had yet to
+    /// return then.
     pub fn peek(&mut self) -> Option<Event>
         ensures first { result ≡ first_of self.old.remaining }
         ensures found { result ≡ (looked self.old.pending).found }
@@ -81,7 +85,9 @@ impl<C: Curve> Coming<C> {
     }
 
     /// Removes the next event and returns it, or returns `None` if no event remains; the search has
-    /// then returned all its cells.
+    /// then returned all its cells. If the event isn't pending (found but not yet returned), the
+    /// search advances to it first. The cells returned since [`Coming::new`] and the remaining ones
+    /// are together the cells that the search had yet to return then.
     pub fn next(&mut self) -> Option<Event>
         ensures first { result ≡ first_of self.old.remaining }
         ensures rest { self.new.remaining ≡ drop 1 self.old.remaining }

@@ -23,11 +23,11 @@ ghost use Rattle.event_list.specs.Events.{
   AreNamed,
 };
 
-/// Proves that a station's events are in accepted cells: cells that the check of a certificate accepts,
-/// over the reference station's span `widened_of`. The events in these cells, merged and then moved by
-/// the station's offsets, are the station's events. Also proves that the cells made by halving the span
-/// are accepted and give the same events, and that there are at most three of them (one for each track)
-/// for each minute of the span.
+/// Proves that a station's events can be made from cells that the check of a certificate accepts,
+/// over the span of its reference station that determines them (`widened_of`): the events in the
+/// cells, merged and then moved by the station's offsets, are the station's events. Also proves
+/// that the cells made by halving the span are accepted and give the same events, and that there
+/// are at most three of them (one for each track) for each minute of the span.
 pub fn cells_give_the_events()
     ensures accepted { (f : Followed) (b : Basis) (begin end : ℤ) (t : Tracks) →
         AreValidOver f (widened_of b begin end) → AreAccepted f (widened_of b begin end) t →

@@ -7,8 +7,8 @@ ghost use Rattle.event_list.specs.Workings.Coming.{IsLeading};
 use crate::rank::comes_before;
 use curve_law::Event;
 
-/// The track with the first event in listing order (by minute, then by kind, then by level), among
-/// the next events of a station's three tracks.
+/// Which of a station's tracks (high and low waters, slack waters, or crossings of a mark) has the
+/// first of their next events in listing order: by minute, then by kind, then by level.
 #[derive(Clone, Copy)]
 pub enum Leading {
     /// The track of high and low waters.

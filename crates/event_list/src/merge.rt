@@ -37,9 +37,10 @@ impl<A: Curve, B: Curve> Model for Merge<A, B> {
 }
 
 impl<A: Curve, B: Curve> Merge<A, B> {
-    /// Returns the merge of the searches of a station's high and low waters, slack waters and
-    /// crossings of a mark, which have all reached the same minute. If `slack` or `mark` is `None`,
-    /// there are no events of this kind.
+    /// Returns the merge of the searches for a station's high and low waters, slack waters and
+    /// crossings of a mark, which have all reached the same minute. `None` for `slack` or `mark`
+    /// means that there are no events of this kind. No event is pending (found but not yet
+    /// returned).
     pub fn new(turn: Search<A>, slack: Option<Search<B>>, mark: Option<Search<B>>) -> Merge<A, B>
         requires slack_at { ForSome slack (λ search. search.at ≡ turn.at) }
         requires mark_at { ForSome mark (λ search. search.at ≡ turn.at) }
@@ -74,7 +75,8 @@ impl<A: Curve, B: Curve> Merge<A, B> {
         }
     }
 
-    /// Returns the number of cells that the searches have returned since [`Merge::new`].
+    /// Returns the number of cells that the searches have returned since [`Merge::new`]. These and
+    /// the cells that they have yet to return are all cells that they had yet to return then.
     pub fn cells(&self) -> u64
         ensures value { result ≡ self.now.cells }
         ensures cells_given { result + cells_to_come self.now.pending ≡ self.now.all }

@@ -9,10 +9,10 @@ use curve_law::{Event, Kind};
 use station_table::{Basis, Offset};
 
 /// Returns the station's event for `event`, an event of its reference station, by the offset that
-/// `basis` has for the event's kind. The offset's minutes are added to the minute. The level is
-/// multiplied by the offset's factor and rounded to whole millionths of the unit, and then the offset's
-/// height is added. The offsets are in their ranges, and the event's minute is at most 10^12 and its
-/// level at most 11,000,000,000 in size.
+/// `basis` (the reference and the offsets from it) has for the event's kind. The offset's minutes
+/// are added to the minute. The level is multiplied by the offset's factor and rounded to whole
+/// millionths of the unit, and then the offset's height is added. The offsets are in their ranges,
+/// and the event's minute is at most 10^12 and its level at most 11,000,000,000 in size.
 pub fn moved(basis: &Basis, event: &Event) -> Event
     requires offsets { HasOffsets basis.now }
     requires event { IsMovable event.now }

@@ -9,10 +9,12 @@ use curve_law::{Event, Events};
 use station_table::Basis;
 use std::alloc::{AllocError, Global};
 
-/// Returns the station's events from `begin` up to but not including `end`, sorted by minute, then by
-/// kind, then by level. They are made from `events`, events of its reference station, each moved and
-/// scaled by the offset that `basis` has for its kind. The minutes of `events` are from -10^12 to
-/// 10^12, and their levels are at most 11,000,000,000 millionths of the unit in size.
+/// Returns the station's events from `begin` up to but not including `end`, sorted by minute, then
+/// by kind, then by level: each of `events`, events of its reference station, is moved and scaled
+/// by the offset that `basis` (the reference and the offsets from it) has for its kind, and is left
+/// out if the moved minute isn't in this span. The minutes of `events` are from -10^12 to 10^12,
+/// and their levels at most 11,000,000,000 millionths of the unit in size; the offsets are in their
+/// ranges.
 ///
 /// # Errors
 /// [`AllocError`] if memory runs out.

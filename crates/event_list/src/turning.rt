@@ -26,9 +26,9 @@ pub fn track_events(alloc: Global, cells: &Cells, begin: i64) -> Result<Events, 
     Ok(Events::from_vec(events))
 }
 
-/// Appends to `events` the events in `cells`, the cells of one track. The first cell begins at the
-/// minute `begin`, counted from 1970-01-01T00:00Z, from -10^12 to 10^12, and the cells have at most
-/// 6,000,000 minutes together.
+/// Appends to `events` the events in `cells`, the cells of one track (consecutive minutes, each
+/// cell with one event or none). The first cell begins at the minute `begin`, counted from
+/// 1970-01-01T00:00Z, from -10^12 to 10^12, and the cells have at most 6,000,000 minutes together.
 ///
 /// # Errors
 /// [`AllocError`] if memory runs out.
@@ -63,9 +63,10 @@ fn add_event(events: &mut Vec<Event>, minute: i64, cell: Cell) -> Result<(), All
     Ok(())
 }
 
-/// Appends to `events` the events in `cells`, the cells of one track, or nothing if `cells` is `None`.
-/// The first cell begins at the minute `begin`, counted from 1970-01-01T00:00Z, from -10^12 to 10^12,
-/// and the cells have at most 6,000,000 minutes together.
+/// Appends to `events` the events in `cells`, the cells of one track (consecutive minutes, each
+/// cell with one event or none), or nothing if `cells` is `None`. The first cell begins at the
+/// minute `begin`, counted from 1970-01-01T00:00Z, from -10^12 to 10^12, and the cells have at most
+/// 6,000,000 minutes together.
 ///
 /// # Errors
 /// [`AllocError`] if memory runs out.

@@ -7,9 +7,9 @@ ghost use Rattle.event_list.specs.Events.{span_minutes};
 use crate::span::Span;
 use station_table::Basis;
 
-/// Returns the reference station's span that determines all events of a station from `begin` up to but
-/// not including `end`. The returned span begins at `begin` minus the greatest number of minutes that
-/// `basis` adds to an event's time, and ends at `end` minus the least such number. `begin` and `end`
+/// Returns the span of the reference station that determines all events of a station from `begin`
+/// up to but not including `end`. It begins at `begin` minus the greatest number of minutes that an
+/// offset of `basis` adds to an event's time, and ends at `end` minus the least. `begin` and `end`
 /// are minutes since 1970-01-01T00:00Z, from -10^12 to 10^12, and `begin` isn't after `end`. If the
 /// offsets are in their ranges, each end is moved by at most 1,440 minutes. Nothing is allocated.
 pub fn widened(basis: &Basis, begin: i64, end: i64) -> Span

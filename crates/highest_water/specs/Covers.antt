@@ -10,7 +10,8 @@ use Rattle.highest_water.specs.declared.peak_cell.PeakCell.{PeakCell}
 use Rattle.highest_water.specs.declared.peak_cell.PeakCell.TheVariants.{Under, Single}
 use Rattle.highest_water.specs.Peaks.{highest_minute}
 
--- the number of minutes of a cell
+-- the number of minutes of a cell: n for a cell of n minutes under the highest water, 1 for a
+-- single minute
 abbrev pub minutes_of : PeakCell → ℕ
 minutes_of (Under n) = n
 minutes_of Single = 1
@@ -51,10 +52,10 @@ abbrev pub begins_within : CurveSpec → ℤ → ℤ → ℤ → ℕ → Bool
 begins_within c at value a n =
     int_lt at a && stays_within (c.rate a n) n (c.track.value a) (c.track.value (a +ℤ pos n)) value
 
--- `is_under c at value a n`: true if the n minutes from minute `a` on are under the point of the
--- minute `at` and `value`: n is from 2 to 1,024, and by the curve's rate (a bound on its change in
--- a minute) their values can't reach `value` if they are all before `at`, or can't exceed it if
--- they are all after `at`; false if `at` is one of them or the curve has no rate for them
+-- `is_under c at value a n`: true if the curve's rate (a bound on its change in a minute) shows
+-- that none of the n minutes from minute `a` on is higher than the minute `at` with `value`: n is
+-- from 2 to 1,024, and by the rate either they are all before `at` with values less than `value`,
+-- or all after `at` with values at most `value`; false if `at` is one of them or there is no rate
 unfoldable pub is_under : CurveSpec → ℤ → ℤ → ℤ → ℕ → Bool
 is_under c at value a n =
     nat_le 2 n && nat_le n MOST_MINUTES && (ends_below c at value a n || begins_within c at value a n)
@@ -65,18 +66,22 @@ abbrev pub cell_of : Interval → PeakCell
 cell_of piece = if nat_le piece.minutes 1 then Single else Under piece.minutes
 
 -- the cells of a block of n minutes from minute `a` on, for a highest water with the minute `at`
--- and `value`: one cell if the block is under it, or a single minute, or else the cells of its two
--- halves, the first half (n / 2 minutes, rounded down) first
+-- and `value`: one cell if the block is under it (`is_under`: no minute of the block is higher) or
+-- is a single minute, or else the cells of the first half (n / 2 minutes, rounded down) and then
+-- those of the rest
 unfoldable pub peak_split : CurveSpec → ℤ → ℤ → ℤ → ℕ → List PeakCell
 peak_split c at value a n = map cell_of (pieces_of_block (is_under c at value) a n)
 
--- the cells of the span of n minutes from minute `a` on, for a highest water with the minute `at`
--- and `value`: the span is cut from its beginning into blocks of 1,024 minutes, of which the last
--- may be shorter, and each block into its cells
+-- `peak_cover c at value a n`: the cells of the span of n minutes from minute `a` on, for a highest
+-- water with the minute `at` and `value`: the span is cut from its beginning into blocks of 1,024
+-- minutes (the last may be shorter), and each is halved again and again, until each part is under
+-- the highest water (`is_under`: no minute of it is higher) or is a single minute
 unfoldable pub peak_cover : CurveSpec → ℤ → ℤ → ℤ → ℕ → List PeakCell
 peak_cover c at value a n = map cell_of (pieces_of (is_under c at value) a n)
 
--- the highest water of the span of n minutes from minute `a` on, with the cells that show it
+-- the highest water of the span of n minutes from minute `a` on: the first minute with the greatest
+-- value, this value, and the cells of the span (`peak_cover`), by which a check can see that no
+-- minute is higher
 unfoldable pub peak_of : CurveSpec → ℤ → ℕ → Peak
 peak_of c a n =
     let at = highest_minute c a n in

@@ -14,7 +14,7 @@ pub record IsHighest (c : CurveSpec) (begin end at value : ℤ) : Type 0 where
   pub first : (m : ℤ) → begin ≤ℤ m → m <ℤ at → c.track.value m <ℤ value
 
 -- `is_higher at value m v`: true if the minute m with the value v is higher than the minute `at`
--- with `value`: v is greater, or it is equal and m is earlier
+-- with `value`: v is greater than `value`, or they are equal and m is before `at`
 abbrev pub is_higher : ℤ → ℤ → ℤ → ℤ → Bool
 is_higher at value m v = int_lt value v || (int_eq value v && int_lt m at)
 

@@ -12,7 +12,9 @@ use Rattle.highest_water.specs.Peaks.{is_higher}
 use Rattle.highest_water.specs.Covers.{minutes_of, all_minutes, is_under}
 
 -- the verdict on the cell with this number, counted from 1, that begins at minute `a`, for a
--- claimed highest water with the minute `at` and `value`
+-- claimed highest water with the minute `at` and `value`: NotUnder if it claims minutes that by the
+-- curve's rate aren't under this; for a single minute WrongValue if it is `at` and has another
+-- value, and Above if it is another minute and higher; otherwise Accepted
 unfoldable pub cell_verdict : CurveSpec → ℤ → ℤ → ℤ → ℕ → PeakCell → PeakVerdict
 cell_verdict c at value a number (Under n) = if is_under c at value a n then Accepted else NotUnder number
 cell_verdict c at value a number Single =
@@ -43,8 +45,9 @@ abbrev pub is_inside : ℤ → ℤ → ℕ → Bool
 is_inside at a n = int_le a at && int_lt at (a +ℤ pos n)
 
 -- the verdict on a claimed highest water of the n minutes from minute `a` on: WrongLength if its
--- cells don't have n minutes together, otherwise Outside if its minute isn't one of the n,
--- otherwise the first fault of a cell, or Accepted; cells are counted from 1
+-- cells don't have n minutes together, else Outside if its minute isn't one of the n, else the
+-- first fault of a cell, numbered from 1: NotUnder (by the curve's rate its minutes may be higher),
+-- WrongValue (of the claimed minute) or Above (a single minute is higher); else Accepted
 unfoldable pub peak_verdict : CurveSpec → ℤ → ℕ → Peak → PeakVerdict
 peak_verdict c a n peak =
     if all_minutes peak.cells == n

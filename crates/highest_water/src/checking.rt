@@ -23,7 +23,7 @@ use curve_law::{Curve, Point, point_at};
 /// The caller ensures that `begin` and `end` are both minutes of `curve` and `begin` isn't after
 /// `end`, that the value of `peak` is below 10^37 in size, that there are fewer than 2^32 cells,
 /// and that the cells and the earlier evaluations of the curve together number at most 2^62. The
-/// call evaluates the curve at most once per cell, plus once.
+/// call evaluates the curve at most once per cell, plus once, and nothing else about it changes.
 pub fn check_peak<C: Curve>(curve: &mut C, peak: &Peak, begin: i64, end: i64) -> PeakVerdict
     requires forward { begin ≤ℤ end }
     requires first { (C.state curve.old).curve_model.curve_spec.first ≤ℤ begin }

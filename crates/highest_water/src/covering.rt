@@ -10,9 +10,11 @@ use curve_law::{Curve, Point};
 use std::alloc::{AllocError, Global};
 
 /// Returns the cells that show that `value`, at minute `at`, is the highest water of the minutes
-/// from `begin` up to but not including `end`. The caller ensures that it is, that `begin` and
-/// `end` are both minutes of `curve`, and that the curve was evaluated at most 2^62 times before.
-/// The call evaluates it at most once per cell, plus once.
+/// from `begin` up to but not including `end`: by the bound on the curve's change in a minute, or
+/// by a look at a single minute, no minute is higher. The caller ensures that it is the highest
+/// water, that `begin` and `end` are minutes of `curve`, and that the curve was evaluated at most
+/// 2^62 times before. The call evaluates it at most once per cell, plus once, and nothing else
+/// about it changes.
 ///
 /// The program doesn't call it: the search for the highest water makes these cells.
 ///
@@ -40,10 +42,12 @@ pub fn peak_cover<C: Curve>(
     cells_by(alloc, curve, begin, end, Point { minute: at, value })
 }
 
-/// Returns the cells of the minutes from `begin` up to but not including `end`, both minutes of
-/// `curve`, that halving makes for the point `highest`: cells of several minutes are under this
-/// point, which need not be the highest water. Its value is below 10^37 in size. The call evaluates
-/// the curve at most once per cell, plus once.
+/// Cuts the minutes from `begin` up to but not including `end`, both minutes of `curve`, into
+/// blocks of 1,024 and halves them until each part is a single minute or by the curve's rate has no
+/// minute higher than the point `highest`, and returns these parts as cells. `highest` need not be
+/// the highest water; its value is below 10^37 in size. The curve was evaluated at most 2^62 + 2^60
+/// times before; the call evaluates it at most once per cell, plus once, and nothing else about it
+/// changes.
 ///
 /// # Errors
 /// - [`AllocError`]: when memory runs out.

@@ -15,10 +15,10 @@ use interval_search::block_end;
 use std::alloc::{AllocError, Global};
 
 /// Returns the highest water of the minutes from `begin` up to but not including `end`: the first
-/// minute with the greatest value, this value, and the cells that show it. The caller ensures that
-/// both are minutes of `curve`, 1 to 5,270,400 minutes apart, and that the curve was evaluated at
-/// most 2^62 times before. The call evaluates it at most twice per minute and once per cell of the
-/// result, plus twice.
+/// minute with the greatest value, this value, and the cells by which a check can see that no
+/// minute is higher. The caller ensures that both are minutes of `curve`, 1 to 5,270,400 minutes
+/// apart, and that the curve was evaluated at most 2^62 times before. The call evaluates it at most
+/// twice per minute and once per cell of the result, plus twice, and nothing else about it changes.
 ///
 /// # Errors
 /// - [`AllocError`]: when memory runs out.
@@ -51,8 +51,8 @@ pub fn find_peak<C: Curve>(
 /// Returns the highest water of the minutes from `begin` up to but not including `end`: the first
 /// minute with the greatest value, and this value. The caller ensures that both are minutes of
 /// `curve`, 1 to 5,270,400 minutes apart, and that the curve was evaluated at most 2^62 times
-/// before. The call evaluates it at most twice per minute, plus once. It makes no cells and doesn't
-/// allocate.
+/// before. The call evaluates it at most twice per minute, plus once, and nothing else about it
+/// changes. It makes no cells and doesn't allocate.
 pub fn highest_point<C: Curve>(curve: &mut C, begin: i64, end: i64) -> Point
     requires some { begin <ℤ end }
     requires length_bound { (end -ℤ begin) ≤ℤ pos 5270400 }

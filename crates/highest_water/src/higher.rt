@@ -28,8 +28,9 @@ pub fn higher_of(highest: Point, point: Point) -> Point
     }
 }
 
-/// Returns the highest point known after the cell `found`: the cell's point if it is a single
-/// minute and higher than `highest`, and otherwise `highest`.
+/// Returns the highest point known after the cell `found`, if `highest` was known before: the point
+/// at which the cell begins if it is a single minute and higher (its value is greater, or equal at
+/// an earlier minute), and otherwise `highest`.
 pub fn raised_by(highest: Point, found: LocatedCell) -> Point
     ensures { result ≡ raised_by highest found }
 {

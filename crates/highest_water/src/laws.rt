@@ -10,8 +10,8 @@ ghost use Rattle.highest_water.specs.Peaks.{IsHighest, highest_minute};
 ghost use Rattle.highest_water.specs.Covers.{all_minutes, is_under, peak_split, peak_cover, peak_of};
 ghost use Rattle.highest_water.specs.Verdicts.{peak_verdict};
 
-/// Proves that a span of at least one minute has a highest water, the minute that is found by
-/// looking at each minute and its value, and that it has no other.
+/// Proves that a span of at least one minute has a highest water (the first minute with the
+/// greatest value, found by looking at each minute, and this value), and that it has no other.
 pub fn spans_have_one_highest_water()
     ensures some { (c : CurveSpec) (a : ℤ) (n : ℕ) → 1 ≤ n →
         IsHighest c a (a +ℤ pos n) (highest_minute c a n) (c.track.value (highest_minute c a n)) }
@@ -47,9 +47,9 @@ pub fn spans_are_cut_into_blocks()
         ++ peak_cover c at value (a +ℤ pos MOST_MINUTES) (n - MOST_MINUTES) }
 {}
 
-/// Proves for `n` minutes from minute `a` on that are under the point of the minute `at` and its
-/// value: none of them has a greater value, none of them before `at` has an equal value, and `at`
-/// isn't one of them.
+/// Proves for `n` minutes from minute `a` on that are under the point of the minute `at` and
+/// `value` (`is_under`): none of them has a value greater than `value`, none of them before `at`
+/// has an equal value, and `at` isn't one of them.
 pub fn under_cells_hold_nothing_higher()
     ensures greatest { (c : CurveSpec) (at value a : ℤ) (n : ℕ) → IsLawful c → IsSpan c a n →
         is_under c at value a n ≡ true → (m : ℤ) → a ≤ℤ m → m <ℤ (a +ℤ pos n) → c.track.value m ≤ℤ value }
@@ -84,8 +84,9 @@ pub fn covers_are_accepted()
         peak_verdict c a n (peak_of c a n) ≡ PeakVerdict.Accepted }
 {}
 
-/// Proves that the highest water of a span, its cells and the verdicts of the check are the same
-/// for two curves that differ only in their first and last minute.
+/// Proves for two curves that have the same values and rates, and differ only in their first and
+/// last minute: a span has the same highest water with the same cells for both (`peak_of`), and the
+/// verdict on any claimed highest water is the same.
 pub fn highest_waters_are_those_of_more_minutes()
     ensures peak { (c : CurveSpec) (first last a : ℤ) (n : ℕ) → peak_of (at_minutes first last c) a n ≡ peak_of c a n }
     ensures verdicts { (c : CurveSpec) (first last a : ℤ) (n : ℕ) (peak : Peak) →

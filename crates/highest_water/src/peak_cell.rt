@@ -1,7 +1,7 @@
 //! The cells that show a highest water.
 
 /// A cell of a certificate of a highest water: consecutive minutes of the span, and the claim that
-/// they aren't higher.
+/// none of them has a greater value than the highest water, or an equal value before it.
 #[derive(Clone, Copy, PartialEq, Eq)]
 pub enum PeakCell {
     /// A cell of this number of minutes, from 2 to 1,024, that is under the highest water: by the

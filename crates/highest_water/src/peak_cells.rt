@@ -5,8 +5,9 @@ ghost use Rattle.std.specs.Prelude.{◌≡◌};
 use crate::peak_cell::PeakCell;
 use std::marker::Model;
 
-/// The cells of a highest water, in order of time and without gaps. In contracts its value is the
-/// list of the cells.
+/// The cells that show a highest water, in order of time and without gaps: each is some consecutive
+/// minutes, none of them higher than the highest water. In contracts its value is the list of the
+/// cells.
 #[derive(Drop)]
 pub struct PeakCells {
     items: Vec<PeakCell>,

@@ -6,8 +6,9 @@ use crate::under::is_under;
 use curve_law::{Curve, Point, point_at};
 use interval_search::{Piece, PieceRule};
 
-/// The rule that leaves a piece of a span whole if it is under the point `highest` (by the bound on
-/// the curve's change in a minute no minute of it is higher). It evaluates the curve exactly.
+/// A rule for halving the blocks of a span: it leaves a piece (some consecutive minutes) whole if
+/// it is under the point `highest`, that is, by the bound on the curve's change in a minute no
+/// minute of it is higher. It evaluates the curve exactly.
 #[derive(Drop)]
 pub struct UnderPieces {
     /// The point, with a value below 10^37 in size.

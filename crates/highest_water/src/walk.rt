@@ -12,7 +12,8 @@ use crate::under_pieces::UnderPieces;
 use curve_law::{Curve, Point};
 use interval_search::{Front, Piece, front_at, next_piece};
 
-/// A cell, and the point (the minute and the curve's value) at which it begins.
+/// A cell for a highest water (minutes none of which is higher, or a single minute), and the point
+/// at which it begins: its first minute, and the curve's value at it.
 #[derive(Clone, Copy)]
 pub struct LocatedCell {
     /// The point at which the cell begins.
@@ -33,9 +34,10 @@ fn cell_of(piece: Piece) -> PeakCell
     }
 }
 
-/// Returns the start of a walk over the cells of the minutes from `begin` up to but not including
-/// `end`, both minutes of `curve`, which is evaluated once, at `begin`. The result is the same for
-/// each `highest`, a point with a value below 10^37 in size.
+/// Starts a walk, which goes from cell to cell, over the minutes from `begin` up to but not
+/// including `end`, both minutes of `curve`, and returns its state. The curve was evaluated at most
+/// 2^62 + 2^60 times before, and is evaluated once more, at `begin`. The point `highest`, with a
+/// value below 10^37 in size, has no effect on the result: each step of the walk takes its own.
 pub fn walk_from<C: Curve>(curve: &mut C, highest: Point, begin: i64, end: i64) -> Front
     requires size { unsigned_abs highest.value < 10 ^ 37 }
     requires forward { begin ≤ℤ end }
@@ -54,8 +56,10 @@ pub fn walk_from<C: Curve>(curve: &mut C, highest: Point, begin: i64, end: i64) 
 }
 
 /// Moves the walk past the next cell, and returns this cell with the point at which it begins, or
-/// `None` if the walk is at the end of its span. A cell of several minutes is under the point
-/// `highest`, which may be another one at each call.
+/// `None` if the walk is at the end of its span. By the curve's rate no minute of a cell of several
+/// minutes is higher than the point `highest`, which may be another one at each call. The number of
+/// evaluations is 1 plus the growth of the number of pending points (known ends of later cells),
+/// which is -1 if one is used up; it is 0 for `None`.
 pub fn next_cell<C: Curve>(curve: &mut C, front: &mut Front, highest: Point) -> Option<LocatedCell>
     requires size { unsigned_abs highest.value < 10 ^ 37 }
     requires walk_invariant { IsFront (C.state curve.old).curve_model.curve_spec.track.value (C.state curve.old) front.old }

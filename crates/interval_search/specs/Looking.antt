@@ -14,9 +14,9 @@ pub record Looking (C : Type 0) : Type 0 where
   pub remaining : List Cell
   pub most : ℕ
 
--- `StepsOn old result new`: a step of a search from the state `old` to `new` returns the first
--- remaining cell and the minute at which it begins, and moves to its end; or it returns None, and
--- no cell remains
+-- `StepsOn old result new`: a step of a search goes from the state `old` to `new`. It returns the
+-- first remaining cell and the minute at which this begins, and moves to the cell's end; or it
+-- returns None, there is no cell left, and the search stays at its minute.
 abbrev pub StepsOn : {C : Type 0} → Looking C → Option Found → Looking C → Type 0
 StepsOn old None new = (old.remaining ≡ []) × (new.remaining ≡ []) × (new.at ≡ old.at)
 StepsOn old (Some found) new =

@@ -66,7 +66,9 @@ fn nearest_piece<C: Curve, R: PieceRule>(
     }
 }
 
-/// The state of a search over a span of time.
+/// The state of a search that goes through a span of time from piece to piece: the point that it
+/// has reached, the ends of later pieces that it already knows (pending points), and the span's
+/// end.
 #[derive(Drop)]
 pub struct Front {
     /// The point that the search has reached: a minute, and the value that the rule uses at it.
@@ -78,9 +80,10 @@ pub struct Front {
     pub end: i64,
 }
 
-/// Returns the state of a search at the beginning of the span of the minutes from `begin` up to but
-/// not including `end`. Both are minutes of `curve`, and `begin` isn't after `end`. The curve is
-/// evaluated once, at `begin`; before the call it was evaluated at most 2^62 + 2^60 times.
+/// Starts a search for the pieces that `rule` leaves whole, over the minutes from `begin` up to but
+/// not including `end`, and returns its state, at `begin` and with no pending points. Both are
+/// minutes of `curve`, and `begin` isn't after `end`. The curve is evaluated once, at `begin`, as
+/// the rule does it; before the call it was evaluated at most 2^62 + 2^60 times.
 pub fn front_at<C: Curve, R: PieceRule>(curve: &mut C, rule: &R, begin: i64, end: i64) -> Front
     requires forward { begin ≤ℤ end }
     requires first { (C.state curve.old).curve_model.curve_spec.first ≤ℤ begin }
@@ -103,7 +106,8 @@ pub fn front_at<C: Curve, R: PieceRule>(curve: &mut C, rule: &R, begin: i64, end
 
 /// Moves the search past the next piece (one minute, or minutes that `rule` leaves whole), and
 /// returns this piece, or `None` if the search has reached the end of its span. The number of
-/// evaluations of the curve is 1 plus the growth of the number of pending points, or 0 for `None`.
+/// evaluations of the curve is 1 plus the growth of the number of pending points (known ends of
+/// later pieces), which is -1 if one is used up; it is 0 for `None`.
 #[inline(always)]
 pub fn next_piece<C: Curve, R: PieceRule>(
     curve: &mut C,

@@ -11,8 +11,8 @@ use crate::quiet_pieces::{QuietPieces, next_found};
 use curve_law::Curve;
 use std::marker::Model;
 
-/// A search that returns the cells of a span one after the other. It owns its curve and doesn't
-/// allocate.
+/// A search that returns the cells of a span (quiet minutes without an event, or one minute with or
+/// without one) one after the other. It owns its curve and doesn't allocate.
 ///
 /// In contracts its value is the curve, the minute that it has reached, the remaining cells, and a
 /// bound on the number of evaluations of the curve, which stays the same while the search runs.
@@ -62,7 +62,9 @@ impl<C: Curve> Search<C> {
         Search { curve, front }
     }
 
-    /// Returns the next cell and the minute at which it begins, or `None` if no cell remains.
+    /// Returns the next cell and the minute at which it begins, or `None` if no cell remains, and
+    /// moves past the cell. The bound `most` on the evaluations of the curve stays the same, and so
+    /// do the curve's values and rates.
     #[inline(always)]
     pub fn next(&mut self) -> Option<Found>
         ensures found { StepsOn self.old result self.new }
@@ -72,15 +74,16 @@ impl<C: Curve> Search<C> {
         next_found(&mut self.curve, &mut self.front)
     }
 
-    /// Does nothing. Its contract says that at most 2^61 cells remain.
+    /// Does nothing when the program runs. It is for proofs: its contract gives the caller the fact
+    /// that at most 2^61 cells of the search remain.
     pub fn cells_are_few(&self)
         ensures { length self.now.remaining ≤ 2 ^ 61 }
     {
         let _end = self.front.end;
     }
 
-    /// Returns the number of evaluations of the curve until now, including the evaluations before
-    /// the search began.
+    /// Returns the number of evaluations of the curve until now, including those before the search
+    /// began. It is at most `most`, the bound that the search has in contracts.
     ///
     /// The program doesn't call it.
     pub fn evaluations(&self) -> u64

@@ -6,8 +6,8 @@ use arrayvec::ArrayVec;
 use curve_law::Point;
 use std::marker::Model;
 
-/// A stack of at most sixteen points. In contracts its value is the list of the points, the last
-/// one pushed first.
+/// A stack of at most sixteen points (a point is a minute and a curve's value at it). In contracts
+/// its value is the list of the points, the last one pushed first.
 #[derive(Drop)]
 pub struct Pending {
     points: ArrayVec<Point, 16>,

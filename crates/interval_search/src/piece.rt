@@ -7,8 +7,9 @@ ghost use Rattle.interval_search.specs.Workings.Ahead.{minutes_to, piece_between
 use crate::rule::PieceRule;
 use curve_law::{Curve, MOST_MINUTES, Point};
 
-/// A piece of a span: the minutes from one point of a curve up to but not including another. A
-/// search makes pieces by cutting the span into blocks and halving them.
+/// A piece of a span: the minutes from one point of a curve (a minute and the value at it) up to
+/// but not including another. A search makes pieces by cutting the span into blocks and halving
+/// them.
 #[derive(Clone, Copy)]
 pub struct Piece {
     /// The first minute of the piece, and the curve's value at it.

@@ -59,7 +59,8 @@ fn cell_of<C: Curve>(curve: &C, piece: Piece) -> Cell
 }
 
 /// Moves the search past the next cell, and returns this cell and the minute at which it begins, or
-/// `None` if the search has reached the end of its span.
+/// `None` if the search has reached the end of its span. The bound `most` on all evaluations of the
+/// curve stays the same.
 #[inline(always)]
 pub fn next_found<C: Curve>(curve: &mut C, front: &mut Front) -> Option<Found>
     requires { IsFront (C.state curve.old).curve_model.approximate (C.state curve.old) front.old }

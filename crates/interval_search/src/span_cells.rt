@@ -8,9 +8,11 @@ use crate::quiet_pieces::{QuietPieces, next_found};
 use curve_law::{Cells, Curve};
 use std::alloc::{AllocError, Global};
 
-/// Returns the cells of the minutes from `begin` up to but not including `end`. The caller ensures
-/// that both are minutes of `curve`, that `begin` isn't after `end`, and that the curve was
-/// evaluated at most 2^62 times before. The call evaluates it at most once per cell, plus once.
+/// Returns the cells (quiet minutes without an event, or one minute with or without one) of the
+/// minutes from `begin` up to but not including `end`. The caller ensures that both are minutes of
+/// `curve`, that `begin` isn't after `end`, and that the curve was evaluated at most 2^62 times
+/// before. The call evaluates it at most once per cell, plus once, and nothing else about it
+/// changes.
 ///
 /// # Errors
 /// - [`AllocError`]: when memory runs out.

@@ -17,7 +17,8 @@ pub struct Ripple {
 impl Ripple {
     ghost use Rattle.curve_law.specs.Samples.{ripple_model};
 
-    /// Returns this curve, not yet evaluated.
+    /// Returns the curve whose value is 1 at even minutes and -1 at odd ones, and whose approximate
+    /// values are all 0. It hasn't been evaluated yet.
     pub fn new() -> Ripple
         ensures { ⟦<Ripple as Curve>⟧.state result ≡ record { curve_model = ripple_model; count = 0 } }
     {

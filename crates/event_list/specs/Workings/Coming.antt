@@ -9,12 +9,13 @@ use Rattle.event_list.specs.declared.leading.Leading.TheVariants.{Turn, Slack, M
 use Rattle.event_list.specs.Order.{comes_before, ordered}
 use Rattle.event_list.specs.Merging.{Merging, Pending, minute_of, cells_of, pending, searched, leads}
 
--- the events in the remaining cells of a search; no events if there is no search
+-- the events that a search has still to find: those in its remaining cells, in order of time; no
+-- events if there is no search
 abbrev pub events_ahead : {C : Type 0} → Option (Looking C) → List Event
 events_ahead None = []
 events_ahead (Some search) = cell_events search.at search.remaining
 
--- the number of remaining cells of a search; 0 if there is no search
+-- the number of cells that a search has yet to return; 0 if there is no search
 abbrev pub cells_ahead : {C : Type 0} → Option (Looking C) → ℕ
 cells_ahead search = length (cells_of search)
 
@@ -48,8 +49,8 @@ abbrev pub first_of : List Event → Option Event
 first_of [] = None
 first_of (e ∷ es) = Some e
 
--- no event of the other two tracks is listed before the event of this track; if this track has no
--- event, no track has one
+-- `IsLeading track turn slack mark`: no event of the other two tracks is listed before the next
+-- event of this track; if this track has no event, no track has one
 abbrev pub IsLeading : Leading → Option Event → Option Event → Option Event → Type 0
 IsLeading Turn turn slack mark = (leads turn slack ≡ true) × (leads turn mark ≡ true)
 IsLeading Slack turn slack mark = (leads slack turn ≡ true) × (leads slack mark ≡ true)

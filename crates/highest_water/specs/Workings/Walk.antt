@@ -10,7 +10,8 @@ use Rattle.highest_water.specs.declared.walk.LocatedCell.{LocatedCell}
 use Rattle.highest_water.specs.Peaks.{is_higher}
 use Rattle.highest_water.specs.Covers.{minutes_of, is_under, cell_of}
 
--- the cells that a walk has still to reach, if `highest` is the highest point at each step
+-- the cells that a walk over a span has still to reach from its state `front` on, if at each step a
+-- cell of several minutes is one under the point `highest` (no minute of it is higher)
 unfoldable pub cells_ahead : CurveSpec → Point → Front → List PeakCell
 cells_ahead c highest front = map cell_of (pieces_ahead (is_under c highest.minute highest.value) front)
 
@@ -20,9 +21,10 @@ abbrev pub IsRight : CurveSpec → Point → ℤ → PeakCell → Type 0
 IsRight c highest a (Under n) = is_under c highest.minute highest.value a n ≡ true
 IsRight c highest a Single = Unit {0}
 
--- `StepsTo c highest old result new`: a step of a walk from the state `old` to `new` returns the
--- first cell ahead and moves to its end, which isn't after the end of the span; or it returns None,
--- and no cell is ahead
+-- `StepsTo c highest old result new`: a step of a walk goes from the state `old` to `new`. It
+-- returns the next cell and moves to this cell's end, which isn't after the span's end; a cell of
+-- several minutes is under the point `highest`. Or it returns None, and the walk was at its end
+-- with no cell left.
 abbrev pub StepsTo : CurveSpec → Point → Front → Option LocatedCell → Front → Type 0
 StepsTo c highest old None new =
     (old.at.minute ≡ old.end) × (old.pending ≡ []) × (cells_ahead c highest old ≡ [])
@@ -33,7 +35,8 @@ StepsTo c highest old (Some found) new =
     × IsRight c highest old.at.minute found.cell
     × (new.at.minute ≤ℤ old.end)
 
--- the point `point` if it is higher than `highest`, otherwise `highest`
+-- the point `point` if it is higher than `highest` (its value is greater, or equal at an earlier
+-- minute), otherwise `highest`
 abbrev pub higher_of : Point → Point → Point
 higher_of highest point =
     if is_higher highest.minute highest.value point.minute point.value then point else highest
@@ -44,6 +47,8 @@ abbrev pub raised_at : Point → Point → PeakCell → Point
 raised_at highest point (Under n) = highest
 raised_at highest point Single = higher_of highest point
 
--- the highest point known after the cell `found`
+-- the highest point known after the cell `found`: the point at which the cell begins if it is a
+-- single minute and higher than `highest` (its value is greater, or equal at an earlier minute),
+-- otherwise `highest`
 abbrev pub raised_by : Point → LocatedCell → Point
 raised_by highest found = raised_at highest found.at found.cell

@@ -33,7 +33,7 @@ use Rattle.interval_search.specs.declared.front.Front.{Front}
 use Rattle.interval_search.specs.declared.piece.Piece.{Piece}
 use Rattle.curve_law.specs.Pieces.{Interval, interval, stays_whole, pieces_of_block, pieces_of}
 
--- the number of minutes from minute `a` to minute `b`
+-- the number of minutes from minute `a` to minute `b`, the size of their difference
 abbrev pub minutes_to : ℤ → ℤ → ℕ
 minutes_to a b = unsigned_abs (b -ℤ a)
 
@@ -86,8 +86,10 @@ pub record SearchInvariant (values : ℤ → ℤ) (s : CurveState) (end : ℤ) (
   pub pieces : ArePieces values end at.minute ahead
   pub few : s.count + minutes_to at.minute end ≤ length ahead + (2 ^ 62 + 2 ^ 61 + 2 ^ 60 + 1)
 
--- `IsFront values s front`: the invariant of a search, for its state `front` and the state s of its
--- curve
+-- `IsFront values s front`: the state `front` of a search fits its curve, which has the state s:
+-- the reached point and the pending points (known ends of later pieces) have the values that
+-- `values` has at their minutes, the points are in ascending order up to the span's end, this is a
+-- minute of the curve, and the evaluations until now leave room for those to come
 abbrev pub IsFront : (ℤ → ℤ) → CurveState → Front → Type 0
 IsFront values s front = SearchInvariant values s front.end front.at front.pending
 
@@ -99,8 +101,9 @@ pub record IsNext (test : ℤ → ℕ → Bool) (old : Front) (piece : Piece) (n
   pub whole : stays_whole test piece.begin.minute piece.minutes ≡ true
   pub ahead : pieces_ahead test old ≡ interval_of piece ∷ pieces_ahead test new
 
--- `StepsTo test old result new`: a step of a search from the state `old` to `new` returns the next
--- piece; or it returns None, and the search is at its end and unchanged
+-- `StepsTo test old result new`: a step of a search goes from the state `old` to `new`. It returns
+-- the piece that begins at the reached point and isn't halved (it is one minute, or `test` is true
+-- of it), and moves to its end; or it returns None, and the search is at its end and unchanged.
 abbrev pub StepsTo : (ℤ → ℕ → Bool) → Front → Option Piece → Front → Type 0
 StepsTo test old None new = (new ≡ old) × (old.at.minute ≡ old.end) × (old.pending ≡ []) × (pieces_ahead test old ≡ [])
 StepsTo test old (Some piece) new = IsNext test old piece new

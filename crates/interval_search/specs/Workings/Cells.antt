@@ -12,8 +12,10 @@ use Rattle.interval_search.specs.Workings.Ahead.{pieces_ahead}
 unfoldable pub cells_ahead : CurveSpec → Front → List Cell
 cells_ahead c front = map (cell_of c) (pieces_ahead (is_quiet c) front)
 
--- the value in contracts of a search with this curve, this state of the curve, and this state of
--- the search
+-- the value in contracts of a search with this curve, this state s of the curve, and this state
+-- `front` of the search: the minute that it has reached, its remaining cells, and `most`, a bound
+-- on the evaluations of the curve: those until now plus the remaining cells, less the pending
+-- points (known ends of later pieces)
 abbrev pub looking_at : {C : Type 0} → C → CurveState → Front → Looking C
 looking_at curve s front = record {
   curve = curve;
