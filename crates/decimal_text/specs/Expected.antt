@@ -55,8 +55,9 @@ source_within false = given
 abbrev pub Excused : {T E : Type 0} → Bool → Result T E → E → Type 0
 Excused is_out_of_memory = Excuses (source_within is_out_of_memory) (Unit {0})
 
--- `EqualsUnlessNoMemory is_out_of_memory expected result`: for a step that calls no outside object:
--- true if the result is the expected one, or is an error because memory ran out; `is_out_of_memory`
--- is true of these errors
+-- `EqualsUnlessNoMemory is_out_of_memory expected result`: true if a function's `result`, a value
+-- or an error, is `expected`, the result by definition, or if it is an error of which
+-- `is_out_of_memory` is true (memory ran out). It is for functions that call no object outside the
+-- program, such as a file or a clock: every other error must be the expected one.
 abbrev pub EqualsUnlessNoMemory : {T E : Type 0} → (E → Bool) → Result T E → Result T E → Type 0
 EqualsUnlessNoMemory is_out_of_memory = Meets (λ fault. source_within (is_out_of_memory fault)) (Unit {0})

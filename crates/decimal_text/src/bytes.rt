@@ -20,6 +20,7 @@ impl Model for Bytes {
 
 impl Bytes {
     /// Returns the list with the bytes in `items`, which are moved into it. It doesn't allocate.
+    /// In contracts `items.items` is the list of the items in the vector.
     pub fn from_vec(items: Vec<u8>) -> Bytes
         ensures { result ≡ items.items }
     {

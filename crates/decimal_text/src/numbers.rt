@@ -20,6 +20,7 @@ impl Model for Numbers {
 
 impl Numbers {
     /// Returns the list with the numbers in `items`, which are moved into it. It doesn't allocate.
+    /// In contracts `items.items` is the list of the items in the vector.
     pub fn from_vec(items: Vec<i64>) -> Numbers
         ensures { result ≡ items.items }
     {

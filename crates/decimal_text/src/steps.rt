@@ -28,7 +28,7 @@ pub fn power_of_ten(exponent: u32) -> u64
 /// to 9, make a whole number, and any digits after these must be 0.
 #[derive(Clone, Copy)]
 pub struct Steps {
-    /// The number that the digits read until now write; digits after the first `places` are left
+    /// The number that the digits read so far write; digits after the first `places` are left
     /// out.
     pub value: u64,
     /// How many of the first `places` digits are still to be read.
@@ -62,7 +62,8 @@ impl Steps {
     }
 
     /// Returns the number of steps of `1 / 10^places` if no more digits follow, below 10^9: each of
-    /// the first `places` digits that is missing counts as 0.
+    /// the first `places` digits that is missing counts as 0. The condition holds of each state
+    /// that [`Steps::over`] returns, as `places` is at most 9.
     pub fn total(self) -> u64
         requires { (self.value + 1) * 10 ^ self.remaining ≤ 10 ^ 9 }
         ensures value { result ≡ self.value * 10 ^ self.remaining }

@@ -21,6 +21,7 @@ impl Model for Words {
 
 impl Words {
     /// Returns the list with the texts in `items`, which are moved into it. It doesn't allocate.
+    /// In contracts `items.items` is the list of the items in the vector.
     pub fn from_vec(items: Vec<Text>) -> Words
         ensures { result ≡ items.items }
     {

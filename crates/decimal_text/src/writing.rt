@@ -13,7 +13,8 @@ use itoa::Buffer;
 /// after the point; `places` is from 0 to 6.
 ///
 /// The decimal has at least one digit before the point, `-` if the value is negative and no sign
-/// otherwise, and no point if `places` is 0. It doesn't allocate.
+/// otherwise, and no point if `places` is 0. If it has at most 18 digits before the point,
+/// [`read`](crate::read) returns `value` for it. It doesn't allocate.
 ///
 /// # Examples
 /// ```

@@ -30,8 +30,9 @@ pub record IsConstituent (c : Constituent) : Type 0 where
   pub speed : IsWithin (pos 0) (pos 3600000000) c.speed
 
 -- `IsStation count s`: true of a valid station in a book of `count` constituents. Its name has 1 to
--- 200 characters; the meridian is in minutes, the datum and the amplitudes in millionths of its
--- unit, the epochs in ten-millionths of a degree; there are `count` amplitudes and `count` epochs.
+-- 200 characters (`IsName`), its meridian is from -959 to 959 minutes, its datum is from -10,000 to
+-- 10,000 (in millionths of its unit), and it has `count` amplitudes in the same range and unit, and
+-- `count` epochs from -720 to 720 degrees (in ten-millionths of a degree).
 pub record IsStation (count : ℕ) (s : Station) : Type 0 where
   pub name : IsName 200 s.name
   pub meridian : IsWithin (negsuc 958) (pos 959) s.meridian
@@ -41,9 +42,10 @@ pub record IsStation (count : ℕ) (s : Station) : Type 0 where
   pub epochs : length s.epoch ≡ count
   pub epoch : All (IsWithin (negsuc 7199999999) (pos 7200000000)) s.epoch
 
--- true of a valid book: 1 to 500 valid constituents, a first year from 2 to 8800, 1 to 500 years,
--- an equilibrium argument (from -720 to 720 degrees, in ten-millionths) and a node factor (from 0
--- to 10, in millionths) for each constituent and year, and at most 20,000 valid stations
+-- true of a valid book: 1 to 500 constituents (names of 1 to 32 characters, speeds from 0 to 360
+-- degrees an hour), a first year from 2 to 8800, 1 to 500 years, an equilibrium argument (from -720
+-- to 720 degrees, in ten-millionths) and a node factor (from 0 to 10, in millionths) for each
+-- constituent and year, and at most 20,000 valid stations (`IsStation`)
 pub record IsBook (b : Book) : Type 0 where
   pub some_constituents : 1 ≤ length b.constituents
   pub few_constituents : length b.constituents ≤ 500

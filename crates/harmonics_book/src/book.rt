@@ -25,7 +25,8 @@ pub enum Units {
     KnotsSquared,
 }
 
-/// A reference station with its harmonic constants.
+/// A reference station: a place with its harmonic constants, an amplitude and an epoch for each of
+/// the book's constituents, from which its tide or current is predicted.
 #[derive(Debug, Drop)]
 pub struct Station {
     /// The station's name: 1 to 200 characters of ISO 8859-1, in UTF-8, none of them a control
@@ -49,7 +50,8 @@ pub struct Station {
     pub epoch: Numbers,
 }
 
-/// The content of a harmonics file.
+/// The content of a harmonics file: tidal constituents, tables of their equilibrium arguments and
+/// node factors by calendar year, and stations with the constants of these constituents.
 #[derive(Debug, Drop)]
 pub struct Book {
     /// The constituents, from 1 to 500, in the file's order.

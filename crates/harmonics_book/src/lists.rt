@@ -24,7 +24,7 @@ impl Model for Constituents {
 
 impl Constituents {
     /// Returns the list with the constituents in `items`, which are moved into it. It doesn't
-    /// allocate.
+    /// allocate. In contracts `items.items` is the list of the items in the vector.
     pub fn from_vec(items: Vec<Constituent>) -> Constituents
         ensures { result ≡ items.items }
     {
@@ -77,6 +77,7 @@ impl Model for Stations {
 
 impl Stations {
     /// Returns the list with the stations in `items`, which are moved into it. It doesn't allocate.
+    /// In contracts `items.items` is the list of the items in the vector.
     pub fn from_vec(items: Vec<Station>) -> Stations
         ensures { result ≡ items.items }
     {

@@ -26,7 +26,8 @@ use Rattle.harmonics_text.specs.declared.fault.BookFault.TheVariants as faults
 use Rattle.harmonics_text.specs.Lines.{is_lf, is_comment, cut, numbered, kept}
 use Rattle.harmonics_text.specs.Reading.{At, book}
 
--- the lines of the first bytes of a file that end with an LF, without it
+-- the lines that have ended within a file's first bytes, which are those with an LF after them;
+-- each is given without its LF
 unfoldable pub ended_lines : List ℕ → List (List ℕ)
 ended_lines bytes = take (count_by is_lf bytes) (cut bytes)
 
@@ -34,7 +35,8 @@ ended_lines bytes = take (count_by is_lf bytes) (cut bytes)
 unfoldable pub pending_line : List ℕ → List ℕ
 pending_line bytes = after_last is_lf bytes
 
--- the number of bytes after the last LF, or 0 if they are a comment
+-- the number of a file's first bytes that are after the last LF among them, or 0 if they are a
+-- comment; without an LF, all are counted
 unfoldable pub pending_length : List ℕ → ℕ
 pending_length bytes = if is_comment (pending_line bytes) then 0 else length (pending_line bytes)
 

@@ -81,18 +81,17 @@ places_of Angle = 7
 places_of Factor = 6
 places_of Height = 6
 
--- the least number of each kind in its unit: speeds from 0 and angles from -720 degrees, in
--- ten-millionths of a degree (for speeds, an hour); node factors from 0 and heights from -10,000,
--- in millionths
+-- the least number of each kind in its unit: 0 for speeds, in ten-millionths of a degree an hour;
+-- -720 degrees for angles, in ten-millionths; 0 for node factors and -10,000 for heights, both in
+-- millionths
 abbrev pub least_of : Scale → ℤ
 least_of Speed = pos 0
 least_of Angle = negsuc 7199999999
 least_of Factor = pos 0
 least_of Height = negsuc 9999999999
 
--- the greatest number of each kind in its unit: speeds to 360 degrees an hour and angles to 720
--- degrees, in ten-millionths of a degree (for speeds, an hour); node factors to 10 and heights to
--- 10,000, in millionths
+-- the greatest number of each kind in its unit: 360 degrees an hour for speeds and 720 degrees for
+-- angles, both in ten-millionths; 10 for node factors and 10,000 for heights, both in millionths
 abbrev pub most_of : Scale → ℤ
 most_of Speed = pos 3600000000
 most_of Angle = pos 7200000000
@@ -186,7 +185,8 @@ constituent_from earlier (first ∷ rest) = do
   Ok (record { name = name; speed = n })
 
 -- `constituent_of earlier text`: the constituent in a line, whose tokens are a name that no
--- constituent in `earlier` has and a speed in degrees an hour, or the reason why the line is bad
+-- constituent in `earlier` has and a speed in degrees an hour (its value is in ten-millionths), or
+-- the reason why the line is bad: BadName, then BadNumber, TooFine or OutOfRange
 unfoldable pub constituent_of : List Constituent → List ℕ → Result Constituent Why
 constituent_of earlier text = constituent_from earlier (tokens text)
 
@@ -220,8 +220,8 @@ values_from s (suc remaining) values (token ∷ more) = parse_number s token >>=
 
 -- ---- a station's lines
 
--- the name of a station in UTF-8: the line without the spaces and tabs at both ends, of 1 to 200
--- bytes, or BadName
+-- the name of a station in UTF-8: the line, in ISO 8859-1, without the spaces and tabs at both
+-- ends; BadName if 1 to 200 bytes don't remain, or one of them is below 32 or 127
 unfoldable pub station_name_of : List ℕ → Result (List ℕ) Why
 station_name_of text = name_of 200 (trimmed text)
 
@@ -280,7 +280,9 @@ local_time_from (first ∷ second ∷ []) = do
   Ok (record { meridian = m; zone = zone })
 local_time_from (first ∷ second ∷ third ∷ more) = Err BadMeridian
 
--- the meridian, in minutes, and the zone in a line, whose zone may be missing, or BadMeridian
+-- the meridian in a line such as `-5:00 :America/New_York`, in minutes from -959 to 959, positive
+-- east of Greenwich, and the zone's name in UTF-8, which has no bytes if it is missing; BadMeridian
+-- for any other line
 unfoldable pub local_time_of : List ℕ → Result LocalTime Why
 local_time_of text = local_time_from (tokens text)
 
@@ -316,7 +318,7 @@ pair_from name (first ∷ rest) = do
   Ok (if is_absent first then (pos 0, pos 0) else (amplitude, epoch))
 
 -- `pair_of name text`: the amplitude, in millionths of the station's unit, and the epoch, in
--- ten-millionths of a degree, in a station's line for the constituent `name`, or the reason why the
--- line is bad
+-- ten-millionths of a degree, in a station's line: the constituent's name and two numbers. Both are
+-- 0 if the line has `x` in place of `name`. Otherwise the reason why the line is bad.
 unfoldable pub pair_of : List ℕ → List ℕ → Result (ℤ × ℤ) Why
 pair_of name text = pair_from name (tokens text)

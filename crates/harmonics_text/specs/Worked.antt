@@ -15,8 +15,8 @@ use Rattle.harmonics_text.specs.declared.fault.Why.TheVariants.{
   BadUnits,
 }
 
--- the lines of the file, without their LFs: a comment, one constituent (S2), the years 1999 to 2001
--- and one station
+-- the 16 lines of a small example file, without their LFs: a comment, one constituent (S2), tables
+-- for the years 1999 to 2001, and one station, Pier
 abbrev pub pier_lines : List (List ℕ)
 pier_lines =
     codes "# Pier test" ∷ codes "1" ∷ codes "S2 30.0000000" ∷ codes "1999" ∷ codes "3"

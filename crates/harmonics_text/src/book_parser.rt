@@ -93,8 +93,8 @@ impl BookParser {
 
     /// Reads `line`, the next line without its LF. If lines `x 0 0` (a constituent that the station
     /// doesn't have) follow at the start of `rest`, the bytes after the LF, it may read some of
-    /// them too, all at once. Returns how many lines it read after `line`, and the bytes of `rest`
-    /// after them. After an error the state is unspecified.
+    /// them too, all at once. Returns how many lines it read after `line`, each of one byte or
+    /// more, and the bytes of `rest` after them. After an error the state is unspecified.
     ///
     /// # Errors
     /// [`LineFault::Bad`]: with the first rule that `line` breaks. [`LineFault::NoMemory`]: if

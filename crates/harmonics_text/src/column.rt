@@ -6,8 +6,8 @@ use decimal_text::Numbers;
 use std::alloc::{AllocError, Global};
 use std::marker::Model;
 
-/// A growing list of whole numbers: the values read until now of a table, or the amplitudes or the
-/// epochs of a station. In contracts its value is the list of these numbers.
+/// A growing list of whole numbers: the values read so far of a table, or the amplitudes or the
+/// epochs read so far of a station. In contracts its value is the list of these numbers.
 #[derive(Drop)]
 pub struct Column {
     items: Vec<i64>,

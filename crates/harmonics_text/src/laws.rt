@@ -30,10 +30,10 @@ ghost use Rattle.harmonics_text.specs.Worked.{pier_lines, file_of, pier_with, ch
 use crate::fault::Why;
 
 /// Proves examples of the rules for lines: how a file is cut into lines and a line into tokens,
-/// which lines are skipped, and which value, or which fault, some lines have.
+/// which lines are skipped, and which value, or which fault, some lines have. An LF ends a line,
+/// and the bytes after the last LF are a line too (`lines`). `negsuc n` is -(n + 1).
 #[tactic(auto, unfolding(crate::specs::Lines::cut, crate::specs::Lines::numbered, crate::specs::Lines::is_kept, crate::specs::Lines::kept, crate::specs::Lines::tokens, crate::specs::Lines::trimmed, crate::specs::Rules::in_scale, crate::specs::Rules::parse_number, crate::specs::Rules::whole_of, crate::specs::Rules::from_to, crate::specs::Rules::count_of, crate::specs::Rules::first_year_of, crate::specs::Rules::name_of, crate::specs::Rules::new_name_of, crate::specs::Rules::constituent_from, crate::specs::Rules::constituent_of, crate::specs::Rules::named, crate::specs::Rules::end_of, crate::specs::Rules::same_count_of, crate::specs::Rules::values_from, crate::specs::Rules::station_name_of, crate::specs::Rules::two_digits_of, crate::specs::Rules::minutes_of, crate::specs::Rules::clock_of, crate::specs::Rules::meridian_of, crate::specs::Rules::zone_of, crate::specs::Rules::local_time_from, crate::specs::Rules::local_time_of, crate::specs::Rules::units_of, crate::specs::Rules::datum_of, crate::specs::Rules::pair_from, crate::specs::Rules::pair_of, crate::specs::Reading::constituents, crate::specs::Reading::values, crate::specs::Reading::table, crate::specs::Reading::pairs, crate::specs::Reading::station, crate::specs::Reading::most_stations, crate::specs::Reading::stations, crate::specs::Reading::book, crate::specs::Reading::book_of, crate::specs::Pieces::ended_lines, crate::specs::Pieces::pending_line, crate::specs::Pieces::pending_length, crate::specs::Pieces::judged_lines, crate::specs::Pieces::fault_so_far, decimal_text::specs::Decimal::after_point, decimal_text::specs::Decimal::made_of, decimal_text::specs::Decimal::decimal_of, decimal_text::specs::Decimal::scaled, decimal_text::specs::Decimal::scaled_or_bad, decimal_text::specs::Decimal::read_of, decimal_text::specs::Digits::digits_of))]
 pub fn worked_lines()
-    // An LF ends a line; the bytes after the last LF are a line too.
     ensures lines { cut (codes "a\n\nb") ≡ codes "a" ∷ [] ∷ codes "b" ∷ [] }
     // A comment and a blank line are skipped; a line with a space before `#`, or with two CRs,
     // isn't.
@@ -62,11 +62,11 @@ pub fn worked_lines()
     ensures absent { pair_of (codes "S2") (codes "x 1 2") ≡ Ok (pos 0, pos 0) }
 {}
 
-/// Proves the book in a small file, and the fault of each copy in which a line is bad or the last
-/// lines are missing.
+/// Proves the book in a small file of 16 lines (`pier`), and the fault of each changed file: with
+/// one line changed (`changed`), without its last line (`cut_short`), without any byte (`empty`),
+/// or with a speed of too many decimal places after a comment and a blank line (`too_fine`).
 #[tactic(auto, unfolding(crate::specs::Lines::cut, crate::specs::Lines::numbered, crate::specs::Lines::is_kept, crate::specs::Lines::kept, crate::specs::Lines::tokens, crate::specs::Lines::trimmed, crate::specs::Rules::in_scale, crate::specs::Rules::parse_number, crate::specs::Rules::whole_of, crate::specs::Rules::from_to, crate::specs::Rules::count_of, crate::specs::Rules::first_year_of, crate::specs::Rules::name_of, crate::specs::Rules::new_name_of, crate::specs::Rules::constituent_from, crate::specs::Rules::constituent_of, crate::specs::Rules::named, crate::specs::Rules::end_of, crate::specs::Rules::same_count_of, crate::specs::Rules::values_from, crate::specs::Rules::station_name_of, crate::specs::Rules::two_digits_of, crate::specs::Rules::minutes_of, crate::specs::Rules::clock_of, crate::specs::Rules::meridian_of, crate::specs::Rules::zone_of, crate::specs::Rules::local_time_from, crate::specs::Rules::local_time_of, crate::specs::Rules::units_of, crate::specs::Rules::datum_of, crate::specs::Rules::pair_from, crate::specs::Rules::pair_of, crate::specs::Reading::constituents, crate::specs::Reading::values, crate::specs::Reading::table, crate::specs::Reading::pairs, crate::specs::Reading::station, crate::specs::Reading::most_stations, crate::specs::Reading::stations, crate::specs::Reading::book, crate::specs::Reading::book_of, crate::specs::Pieces::ended_lines, crate::specs::Pieces::pending_line, crate::specs::Pieces::pending_length, crate::specs::Pieces::judged_lines, crate::specs::Pieces::fault_so_far, decimal_text::specs::Decimal::after_point, decimal_text::specs::Decimal::made_of, decimal_text::specs::Decimal::decimal_of, decimal_text::specs::Decimal::scaled, decimal_text::specs::Decimal::scaled_or_bad, decimal_text::specs::Decimal::read_of, decimal_text::specs::Digits::digits_of))]
 pub fn worked_files()
-    // The small file has the book `pier_book`.
     ensures pier { book_of (file_of pier_lines) ≡ Ok pier_book }
     // The small file without its last line, the sixteenth, ends too early at line 16.
     ensures cut_short { book_of (file_of (take 15 pier_lines)) ≡ Err (record { line = 16; why = Why.CutShort }) }
@@ -80,11 +80,11 @@ pub fn worked_files()
     ensures too_fine { book_of (codes "# a comment\n1\n\nS2 30.00000001\r\n") ≡ Err (record { line = 4; why = Why.TooFine }) }
 {}
 
-/// Proves examples of the fault that the first bytes of a file determine, or `None`, and of the
-/// number of bytes after the last LF.
+/// Proves examples of the fault that the first bytes of a file determine, or `None`
+/// (`fault_so_far`), and of the number of bytes after the last LF, or 0 in a comment
+/// (`pending_length`). A comment and a part of the next line determine no fault (`begun`).
 #[tactic(auto, unfolding(crate::specs::Lines::cut, crate::specs::Lines::numbered, crate::specs::Lines::is_kept, crate::specs::Lines::kept, crate::specs::Lines::tokens, crate::specs::Lines::trimmed, crate::specs::Rules::in_scale, crate::specs::Rules::parse_number, crate::specs::Rules::whole_of, crate::specs::Rules::from_to, crate::specs::Rules::count_of, crate::specs::Rules::first_year_of, crate::specs::Rules::name_of, crate::specs::Rules::new_name_of, crate::specs::Rules::constituent_from, crate::specs::Rules::constituent_of, crate::specs::Rules::named, crate::specs::Rules::end_of, crate::specs::Rules::same_count_of, crate::specs::Rules::values_from, crate::specs::Rules::station_name_of, crate::specs::Rules::two_digits_of, crate::specs::Rules::minutes_of, crate::specs::Rules::clock_of, crate::specs::Rules::meridian_of, crate::specs::Rules::zone_of, crate::specs::Rules::local_time_from, crate::specs::Rules::local_time_of, crate::specs::Rules::units_of, crate::specs::Rules::datum_of, crate::specs::Rules::pair_from, crate::specs::Rules::pair_of, crate::specs::Reading::constituents, crate::specs::Reading::values, crate::specs::Reading::table, crate::specs::Reading::pairs, crate::specs::Reading::station, crate::specs::Reading::most_stations, crate::specs::Reading::stations, crate::specs::Reading::book, crate::specs::Reading::book_of, crate::specs::Pieces::ended_lines, crate::specs::Pieces::pending_line, crate::specs::Pieces::pending_length, crate::specs::Pieces::judged_lines, crate::specs::Pieces::fault_so_far, decimal_text::specs::Decimal::after_point, decimal_text::specs::Decimal::made_of, decimal_text::specs::Decimal::decimal_of, decimal_text::specs::Decimal::scaled, decimal_text::specs::Decimal::scaled_or_bad, decimal_text::specs::Decimal::read_of, decimal_text::specs::Digits::digits_of))]
 pub fn worked_pieces()
-    // A first line without a fault and bytes of the second determine no fault.
     ensures begun { fault_so_far (codes "# Pier test\n1") ≡ None }
     // One byte follows the last LF.
     ensures one_byte { pending_length (codes "# Pier test\n1") ≡ 1 }
@@ -109,9 +109,7 @@ pub fn worked_pieces()
 /// Proves that a fault found in the first bytes of a file is the fault of the file, whatever bytes
 /// follow, and that a fault of the file is found as soon as the LF of its line was read.
 pub fn first_faults()
-    // A fault of the first bytes is the fault of the file, whatever bytes follow.
     ensures stand { (bytes more : List ℕ) (fault : At) → fault_so_far bytes ≡ Some fault → book_of (bytes ++ more) ≡ Err fault }
-    // The fault of a file is the fault of its first bytes once these have the LF of its line.
     ensures reported { (bytes : List ℕ) (fault : At) → book_of bytes ≡ Err fault
         → fault.line ≤ length (ended_lines bytes) → fault_so_far bytes ≡ Some fault }
 {}

@@ -101,9 +101,9 @@ fn is_padded(text: &[u8]) -> bool
     text.starts_with(b"    ".as_slice())
 }
 
-/// Returns `text` after some of the spaces at its start, four at a time, so that up to three
-/// remain. The tokens stay the same. It is called for the bytes after a constituent's name, which
-/// XTide's tools pad with spaces to a fixed width: twelve spaces or more follow most names.
+/// Returns `text` without most of the spaces at its start: they are skipped four at a time, and up
+/// to three remain. The tokens stay the same. It is called for the bytes after a constituent's
+/// name, which XTide's tools pad with spaces to a fixed width: twelve or more follow most names.
 pub fn without_padding(text: &[u8]) -> &[u8]
     ensures { tokens result.now ≡ tokens text.now }
 {

@@ -23,7 +23,8 @@ use crate::pending::Pending;
 use harmonics_book::Book;
 use std::alloc::{AllocError, Global};
 
-/// The state of reading a harmonics file whose first bytes were read. These may end anywhere.
+/// The state of reading a harmonics file of which only the first bytes were read. These may end
+/// anywhere, also within a line.
 #[derive(Drop)]
 pub struct Progress {
     /// The parser's state after the lines whose LF was read.

@@ -36,7 +36,7 @@ pub struct Constants {
     pub epoch: Column,
 }
 
-/// The values of a station's lines that were read, if the station isn't complete.
+/// The values of the lines read so far of a station that isn't complete.
 #[derive(Drop)]
 pub enum Record {
     /// No line of a station was read since the last complete station.

@@ -185,7 +185,7 @@ fn push_absent(station: &mut Constants, count: usize) -> Result<(), AllocError>
 
 /// Reads some of the lines `x 0 0` (a constituent that the station doesn't have) at the start of
 /// `bytes` into `begun`, which has the values of the station's earlier lines, or reads none.
-/// Returns the number of lines read and the bytes after them.
+/// Returns the number of lines read and the bytes after them; each line has at least one byte.
 ///
 /// # Errors
 /// [`AllocError`]: if memory runs out.

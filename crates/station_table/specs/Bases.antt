@@ -20,12 +20,13 @@ usual = record { add = pos 0; times = pos 1000000; plus = pos 0 }
 abbrev pub is_same : Offset → Offset → Bool
 is_same a b = int_eq a.add b.add && int_eq a.times b.times && int_eq a.plus b.plus
 
--- true if the offset of high waters is the same as the offset of low waters
+-- true if the basis has the same offset, in minutes, factor and height, for high and for low waters
 abbrev pub is_equal : Basis → Bool
 is_equal b = is_same b.high b.low
 
--- true if the station's events are its reference's, unchanged: the offsets of high and low waters
--- change nothing, and there are no minutes for slack waters
+-- true if a station's events are its reference's, unchanged: for high and for low waters the basis
+-- adds 0 minutes to the time, and multiplies the level by 1 and adds a height of 0 (`usual`), and
+-- it has no minutes for slack waters (None)
 abbrev pub is_plain : Basis → Bool
 is_plain b = is_same b.high usual && is_same b.low usual && is_none b.slack
 
@@ -37,8 +38,9 @@ station_at book name = position (λ station. bytes_eq station.name name) book.st
 abbrev pub row_at : List Offsets → List ℕ → Option ℕ
 row_at table name = position (λ row. bytes_eq row.name name) table
 
--- the basis of the book's station with this index: its own reference, with offsets that change
--- nothing
+-- `reference_basis station`: the basis of the book's station with the index `station`, counted from
+-- 0. It is its own reference and has no row in a table; its offsets of high and low waters change
+-- nothing (0 minutes, a factor of 1, a height of 0), and it has no minutes for slack waters.
 abbrev pub reference_basis : ℕ → Basis
 reference_basis station = record { station = station; row = None; high = usual; low = usual; slack = None }
 
@@ -69,21 +71,24 @@ abbrev pub reference_or : Result Basis FindFault → Option ℕ → Result Basis
 reference_or subordinate (Some station) = Ok (reference_basis station)
 reference_or subordinate None = subordinate
 
--- the basis of the station called `name`: of the book's first such station, or, if the book has
--- none, of the table's first such row (NoStation if there is none, NoReference if the book doesn't
--- have the row's reference)
+-- the basis (reference station and offsets) of the station called `name`: of the book's first such
+-- station, or, if the book has none, of the table's first such row. NoStation if there is neither,
+-- NoReference with the row's index if the book doesn't have the reference that this row names.
 unfoldable pub basis_of : Book → List Offsets → List ℕ → Result Basis FindFault
 basis_of book table name = reference_or (basis_in book table name) (station_at book name)
 
--- `IsBasis stations b`: the index of the reference is less than `stations`, the number of the
--- book's stations, and the offsets are in their ranges (`IsOffset` and `IsSlack`)
+-- `IsBasis stations b`: true if the index of the reference is less than `stations`, the number of
+-- the book's stations, and the offsets are in their ranges: minutes from -1,440 to 1,440, also for
+-- slack waters if there are any, factors from 1 to 100,000,000 millionths, and heights from
+-- -10,000,000,000 to 10,000,000,000 millionths of the station's unit
 pub record IsBasis (stations : ℕ) (b : Basis) : Type 0 where
   pub station : b.station < stations
   pub high : IsOffset b.high
   pub low : IsOffset b.low
   pub slack : ForSome b.slack IsSlack
 
--- `IsFindFault rows fault`: the index of a row in the fault, if it has one, is less than `rows`
+-- `IsFindFault rows fault`: true if the row whose index the fault has, if it has one, is in the
+-- table: the index, counted from 0, is less than `rows`, the number of the table's rows
 abbrev pub IsFindFault : ℕ → FindFault → Type 0
 IsFindFault rows NoStation = Unit {0}
 IsFindFault rows (NoReference row) = row < rows

@@ -48,7 +48,8 @@ unfoldable pub name_in : List ℕ → Result (List ℕ) OffsetWhy
 name_in text =
     if nat_le 1 (length text) && nat_le (length text) 400 && list_all is_name_byte text then Ok text else Err BadName
 
--- the name in a field: NotUtf8 if the field isn't UTF-8, otherwise BadName if it isn't a name
+-- the name in a field, which is the field itself: NotUtf8 if it isn't UTF-8, otherwise BadName if
+-- it doesn't have 1 to 400 bytes or has a control byte of ASCII (below 32, or 127)
 unfoldable pub name_of : List ℕ → Result (List ℕ) OffsetWhy
 name_of field = text_of field >>= name_in
 
@@ -75,8 +76,8 @@ minutes_of None minute = None
 minutes_of (Some hour) None = None
 minutes_of (Some hour) (Some minute) = if nat_le minute 59 then Some (60 * hour + minute) else None
 
--- the number of minutes that a text writes as `H:MM` or `HH:MM`, with minutes from 00 to 59 (58 is
--- a colon, 48 the digit 0); None for any other text
+-- the number of minutes, from 0 to 5,999, that a text writes as `H:MM` or `HH:MM`: hours from 0 to
+-- 99, a colon (byte 58), and minutes from 00 to 59; None for any other text
 unfoldable pub clock_of : List ℕ → Option ℕ
 clock_of (h ∷ colon ∷ m ∷ n ∷ []) = if colon == 58 then minutes_of (pair_of 48 h) (pair_of m n) else None
 clock_of (g ∷ h ∷ colon ∷ m ∷ n ∷ []) = if colon == 58 then minutes_of (pair_of g h) (pair_of m n) else None

@@ -6,7 +6,7 @@ use Rattle.station_table.specs.declared.offset.Offset.{Offset}
 use Rattle.station_table.specs.declared.offset.Slack.{Slack}
 use Rattle.station_table.specs.declared.offsets.Offsets.{Offsets}
 
--- `IsAdd add`: a number of minutes added to a time, from -1,440 to 1,440
+-- `IsAdd add`: true if `add`, the minutes added to a time, is from -1,440 to 1,440 (24 hours)
 abbrev pub IsAdd : ℤ → Type 0
 IsAdd add = IsWithin (negsuc 1439) (pos 1440) add
 
@@ -30,7 +30,9 @@ pub record IsTableName (name : List ℕ) : Type 0 where
   pub short : length name ≤ 400
   pub printable : All (λ b. (32 ≤ b) × (b ≢ 127)) name
 
--- both names of the row are valid, and its offsets are in their ranges
+-- true of a valid row: its two names have 1 to 400 bytes of UTF-8 without control bytes of ASCII,
+-- its minutes are from -1,440 to 1,440, also for slack waters if it has any, its factors are from 1
+-- to 100,000,000 millionths, and its heights from -10,000,000,000 to 10,000,000,000 millionths
 pub record IsOffsets (o : Offsets) : Type 0 where
   pub name : IsTableName o.name
   pub reference : IsTableName o.reference
@@ -38,7 +40,9 @@ pub record IsOffsets (o : Offsets) : Type 0 where
   pub low : IsOffset o.low
   pub slack : ForSome o.slack IsSlack
 
--- the rows are a valid table: fewer than 2^32, each with valid names and offsets in their ranges
+-- true if the rows are a valid table: there are fewer than 2^32, and each has valid names (1 to 400
+-- bytes of UTF-8 without control bytes of ASCII) and minutes, factors and heights in the ranges of
+-- `IsOffsets`
 pub record IsTable (rows : List Offsets) : Type 0 where
   pub few : length rows < 2 ^ 32
   pub each : All IsOffsets rows

@@ -44,7 +44,8 @@ plain_columns =
     codes "name" ∷ codes "reference" ∷ codes "high_add" ∷ codes "low_add"
     ∷ codes "high_times" ∷ codes "low_times" ∷ codes "high_plus" ∷ codes "low_plus" ∷ []
 
--- the names of the columns of each header
+-- the names of the columns of a table with this header, in order: eight, or ten with the two for
+-- slack waters
 abbrev pub columns_of : Header → List (List ℕ)
 columns_of Plain = plain_columns
 columns_of WithSlack = plain_columns ++ codes "flood_add" ∷ codes "ebb_add" ∷ []
@@ -53,8 +54,8 @@ columns_of WithSlack = plain_columns ++ codes "flood_add" ∷ codes "ebb_add" �
 abbrev pub has_columns : Header → List (List ℕ) → Bool
 has_columns header fields = pointwise bytes_eq fields (columns_of header)
 
--- the header in the fields of a file's first record; BadHeader in row 1 if they aren't the columns
--- of one
+-- the header that the fields of a file's first record are; BadHeader in row 1 if they are neither
+-- the eight column names without minutes for slack waters nor the ten with them
 unfoldable pub header_of : List (List ℕ) → Result Header OffsetFault
 header_of fields =
     if has_columns Plain fields then Ok Plain
@@ -92,8 +93,9 @@ slack_of WithSlack fields = do
 abbrev pub counted : Header → List (List ℕ) → Result (Unit {0}) OffsetWhy
 counted header fields = if length fields == length (columns_of header) then Ok tt else Err FieldCount
 
--- the station in the fields of a row, or the first reason why the row is bad: first the number of
--- fields, then each field from left to right, then HalfSlack
+-- the station in the fields of a row of a table with this header, or the first reason why the row
+-- is bad: FieldCount for a wrong number of fields, then the reason of the first bad field from left
+-- to right, then HalfSlack if exactly one of the two times of slack water is empty
 unfoldable pub offsets_of : Header → List (List ℕ) → Result Offsets OffsetWhy
 offsets_of header fields = do
   all ← counted header fields
@@ -135,7 +137,8 @@ unfoldable pub table_in : List (List (List ℕ)) → Result (List Offsets) Offse
 table_in [] = Err (At 1 BadHeader)
 table_in (names ∷ rows) = header_of names >>= λ header. rows_from header 2 rows
 
--- the table that a file's bytes write, or its first fault; the bytes are cut into records as the
--- crate `csv` does, without a byte order mark at their beginning
+-- the stations in the bytes of a CSV file, in order, or the fault of the first bad row: its number,
+-- counted from the header, which is row 1, and the reason. The crate `csv` says how bytes are cut
+-- into records; a byte order mark at their beginning is skipped.
 unfoldable pub table_of : List ℕ → Result (List Offsets) OffsetFault
 table_of bytes = table_in (records default_config (strip_bom bytes))

@@ -15,8 +15,8 @@ plain_header = codes "name,reference,high_add,low_add,high_times,low_times,high_
 abbrev pub slack_header : List ℕ
 slack_header = plain_header ++ codes ",flood_add,ebb_add"
 
--- a file of three stations: two with the pier as their reference, and one with a reference that
--- isn't in the book
+-- the bytes of an example file: a header and three stations, Dock and Outer with the reference
+-- Pier, and Lost with the reference Nowhere, which isn't in the book
 abbrev pub dock_file : List ℕ
 dock_file =
     plain_header ++ codes "\nDock,Pier,0:30,-0:10,1.1,0.9,0.1,0\nOuter,Pier,0:30,0:30,2,2,0.5,0.5\n"
@@ -34,7 +34,8 @@ dock_low = record { add = negsuc 9; times = pos 900000; plus = pos 0 }
 abbrev pub outer : Offset
 outer = record { add = pos 30; times = pos 2000000; plus = pos 500000 }
 
--- the three stations of `dock_file`
+-- the three stations of an example file (`dock_file`), in order: Dock and Outer with the reference
+-- Pier, and Lost with the reference Nowhere; none has minutes for slack waters
 abbrev pub dock_rows : List Offsets
 dock_rows =
     record { name = codes "Dock"; reference = codes "Pier"; high = dock_high; low = dock_low; slack = None }
@@ -49,7 +50,8 @@ gate_fields =
     codes "Gate" ∷ codes "Pier" ∷ codes "0:30" ∷ codes "-0:10" ∷ codes "1.1" ∷ codes "0.9" ∷ codes "0.1" ∷ codes "0"
     ∷ codes "0:05" ∷ codes "-0:05" ∷ []
 
--- the station in the row `gate_fields`
+-- an example of a station (the row `gate_fields`): Gate with the reference Pier, the offsets of the
+-- dock, and slack waters 5 minutes later before a flood and 5 minutes earlier before an ebb
 abbrev pub gate_row : Offsets
 gate_row = record {
   name = codes "Gate";

@@ -2,10 +2,10 @@
 
 use crate::offset::{Offset, Slack};
 
-/// The reference of a station, as the index of a station of the book, and the offsets from the
-/// reference's events to the station's. A station of the book is its own reference, with the offset
-/// that changes nothing for high and low waters: 0 minutes, a factor of 1,000,000 millionths and a
-/// height of 0.
+/// What a station's events (high, low and slack waters) are computed from: the index of its
+/// reference station in the book, and the offsets from the reference's events to its own. A station
+/// of the book is its own reference, with offsets that change nothing: 0 minutes, a factor of
+/// 1,000,000 millionths and a height of 0.
 #[derive(Clone, Copy)]
 pub struct Basis {
     /// The index of the reference station in the book's list, counted from 0.
@@ -26,7 +26,8 @@ impl Basis {
     ghost use Rattle.std.specs.Prelude.{◌≡◌, ◌↔◌, None, IsTrue};
     ghost use Rattle.station_table.specs.Bases.{is_equal, is_plain, usual};
 
-    /// Returns true if the offset of high waters is the same as the offset of low waters.
+    /// Returns true if the offset of high waters is the same as the offset of low waters, in
+    /// minutes, factor and height. The minutes of slack waters don't matter.
     pub fn equal(&self) -> bool
         ensures exact { result ≡ is_equal self.now }
         ensures same { IsTrue result ↔ (self.now.high ≡ self.now.low) }

@@ -52,8 +52,8 @@ impl OffsetTable {
         Ok(())
     }
 
-    /// Does nothing. Its contract says that there are fewer than 2^32 rows, and that the names of
-    /// each row are valid and its offsets in their ranges.
+    /// Does nothing at run time. A caller gets from its contract that there are fewer than 2^32
+    /// rows, and that the names of each row are valid and its offsets in their ranges.
     pub fn ranges_hold(&self)
         ensures { IsTable self.now }
     {

@@ -24,10 +24,11 @@ ghost use Rattle.station_table.specs.Worked.{
 
 /// Proves the values of some fields of a table: minutes added to a time (`add_of`), factors of a
 /// level and heights added to it, both in millionths (`times_of` and `plus_of`), and names
-/// (`name_of`). `negsuc n` is -(n + 1).
+/// (`name_of`). An empty field of a number changes nothing. The ends of the ranges are 24 hours
+/// later and earlier, factors of 0.000001 and 100, and heights of 10000 and -10000. `negsuc n` is
+/// -(n + 1).
 #[tactic(auto, unfolding(crate::proofs::OnLiterals::table_on_literals))]
 pub fn worked_fields()
-    // 24 hours later and 24 hours earlier, the ends of the range.
     ensures greatest_add { add_of (codes "24:00") ≡ Ok (pos 1440) }
     ensures least_add { add_of (codes "-24:00") ≡ Ok (negsuc 1439) }
     // A time to add may have a plus sign.
@@ -50,11 +51,11 @@ pub fn worked_fields()
     ensures accented { name_of (195 ∷ 169 ∷ []) ≡ Ok (195 ∷ 169 ∷ []) }
 {}
 
-/// Proves which station a row gives, and for each of the rows with one field changed (`changes`)
-/// the reason why it is bad.
+/// Proves which station an example row of ten fields gives (`gate`), and why it is bad if one of
+/// its fields is changed (`changes` lists the changes with the reasons) or if the header has
+/// another number of columns than the row has fields (`long` and `short`).
 #[tactic(auto, unfolding(crate::proofs::OnLiterals::table_on_literals))]
 pub fn sample_rows()
-    // The row of the gate, with minutes for slack waters.
     ensures gate { offsets_of Header.WithSlack gate_fields ≡ Ok gate_row }
     // Each changed row has the fault that is listed with the change.
     ensures changed { map (λ c. offsets_of Header.WithSlack (gate_with c)) changes ≡ map (λ c. Err c.why) changes }
@@ -64,11 +65,11 @@ pub fn sample_rows()
     ensures short { offsets_of Header.WithSlack (take 8 gate_fields) ≡ Err OffsetWhy.FieldCount }
 {}
 
-/// Proves the tables of some files of offsets, or their first fault, which has the number of a row,
-/// counted from the header, which is row 1.
+/// Proves the tables of some files of offsets: of one with a header and three stations (`dock`),
+/// and of one with only a header (`none`). Other files have a fault: the number of the first bad
+/// row, counted from the header, which is row 1, without blank lines, and the reason.
 #[tactic(auto, unfolding(crate::proofs::OnLiterals::table_on_literals))]
 pub fn worked_tables()
-    // A file with a header and three stations.
     ensures dock { table_of dock_file ≡ Ok dock_rows }
     // A file with only a header is a table without stations.
     ensures none { table_of (slack_header ++ codes "\r\n") ≡ Ok [] }
@@ -84,10 +85,10 @@ pub fn worked_tables()
 {}
 
 /// Proves for some names of stations their reference station and offsets, or why they have none,
-/// with a book of one station, the pier, and a table of subordinate stations.
+/// with a book of one station, the pier, and a table of subordinate stations. The pier is its own
+/// reference (`reference`). Indices of stations and rows count from 0.
 #[tactic(auto, unfolding(crate::specs::Bases::basis_of, crate::specs::Bases::basis_in, crate::specs::Bases::basis_over))]
 pub fn worked_bases()
-    // The pier is in the book, and is its own reference.
     ensures reference { basis_of pier_book dock_rows (codes "Pier") ≡ Ok (reference_basis 0) }
     // The dock is the first row of the table, and the pier is its reference.
     ensures dock { basis_of pier_book dock_rows (codes "Dock")

@@ -118,14 +118,16 @@ same_flag No flag = not (is_dst flag)
 abbrev pub same_type : TypeText → TypeText → Bool
 same_type a b = int_eq a.seconds b.seconds && same_flag a.dst b.dst && bytes_eq a.name b.name
 
--- `goes_on rule rows`: at the second of the last of `rows`, `rule` gives the same clock type
--- (offset, daylight saving flag and abbreviation) as this row; true if there is no row
+-- `goes_on rule rows`: true if `rule`, at the second at which the last row of the table `rows`
+-- begins, gives the same clock type (offset, daylight saving flag and abbreviation) as this row, or
+-- if the table has no row
 unfoldable pub goes_on : TzText → List TransitionText → Bool
 goes_on rule [] = true
 goes_on rule (row ∷ []) = same_type (rule_type rule row.second) row.after
 goes_on rule (row ∷ next ∷ rows) = goes_on rule (next ∷ rows)
 
--- a zone file has no rule, or its rule gives the same clock type as the last row of its table at
--- this row's second
+-- true if the zone file has no rule, or if its rule, at the second at which the last row of its
+-- table begins, gives the same clock type (offset, daylight saving flag and abbreviation) as this
+-- row; also true if the table has no row
 unfoldable pub is_consistent : TzifText → Bool
 is_consistent file = match_some file.rule true (λ rule. goes_on rule file.transitions)

@@ -49,7 +49,10 @@ pub record InZoneYears (minute : ℤ) : Type 0 where
 abbrev pub local_at : ℤ → ℤ → Local
 local_at minute shown = record { minute = shown; label = Minutes (shown -ℤ minute) }
 
--- `local_in zone minute`: the local time in `zone` at `minute`, counted from 1970-01-01T00:00Z
+-- `local_in zone minute`: the local time in `zone` at `minute`, counted from 1970-01-01T00:00Z. In
+-- universal time it is `minute` itself, at a fixed offset `minute` plus the offset, and in a file's
+-- zone the minute that the file's clock shows, with seconds rounded down. Its label is universal
+-- time, or the offset: the minute shown less `minute`.
 abbrev pub local_in : Zone → ℤ → Local
 local_in Utc minute = record { minute = minute; label = labels.Utc }
 local_in (Fixed utc_offset) minute = record { minute = minute +ℤ utc_offset; label = Minutes utc_offset }

@@ -36,6 +36,7 @@ pub fn moments_have_one_text()
 /// Proves that at each second the clock of a zone file is as far ahead of universal time as `jiff`
 /// computes. Also proves that `goes_on`, which says that a rule gives the clock type of a table's
 /// last row at that row's second, is true exactly if `jiff`'s condition `FooterAgrees` holds.
+/// `tzif_view` and `tz_view` turn `jiff`'s file and rule into the lists and numbers of contracts.
 pub fn zone_files_go_by_jiff()
     ensures utc_offset { (zone : Tzif) (second : ℤ) →
         seconds_ahead (tzif_view zone) second ≡ (offset_at zone (nanos_of_seconds second)).seconds }

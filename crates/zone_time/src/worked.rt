@@ -47,8 +47,9 @@ pub fn worked_readings()
 {}
 
 /// Proves the texts of local times and labels; a label is `UTC` or an offset from universal time in
-/// minutes. The offsets are five hours and half an hour behind, 26 hours behind, 5:45 ahead, and 0;
-/// the earliest local time with a text is in the year 0. `negsuc n` is -(n + 1).
+/// minutes. The offsets are five hours and half an hour behind, 26 hours behind, 5:45 ahead, and 0
+/// (`level`). The clause `first` has the earliest local time with a text, in the year 0.
+/// `negsuc n` is -(n + 1).
 #[tactic(auto, unfolding(crate::specs::Locals::local_text, crate::specs::Locals::time_text, crate::specs::Locals::label_text, crate::specs::Dates::date_text, crate::specs::Dates::clock_text, crate::specs::Dates::two_digits, crate::specs::Dates::date_of, crate::specs::Dates::date_from_year, crate::specs::Dates::date_from_month))]
 pub fn worked_locals()
     ensures universal { local_text (record { minute = pos 15791400; label = Label.Utc }) ≡ codes "2000-01-10 06:00 UTC" }
@@ -61,10 +62,10 @@ pub fn worked_locals()
 {}
 
 /// Proves the minutes that the clock of an example file for New York shows at some minutes, both
-/// counted from 1970-01-01 00:00 (`negsuc n` is -(n + 1)). The file has a table of changes up to
-/// 1999 and a rule for later times. Seconds of mean time are rounded down, a row of the table
-/// applies from its second on, and the rule begins and ends daylight saving time in 2000. The last
-/// clause is the text of a local time at a fixed offset of five hours behind.
+/// counted from 1970-01-01 00:00 (`negsuc n` is -(n + 1)): in 1850 in mean time, whose seconds are
+/// rounded down, and in the last minute before and at each of four changes: 1883-11-18T17:00Z and
+/// 1999-10-31T06:00Z (`pos 941954400`) by the file's table, 2000-03-12T07:00Z and 2000-11-05T06:00Z
+/// by its rule. `label` is the text of a local time at a fixed offset of five hours behind.
 pub fn worked_clocks()
     ensures mean_time { clock_minute (new_york_to (pos 941954400)) (negsuc 63113759) ≡ negsuc 63114056 }
     ensures last_of_mean_time { clock_minute (new_york_to (pos 941954400)) (negsuc 45294180) ≡ negsuc 45294477 }
@@ -78,9 +79,10 @@ pub fn worked_clocks()
     ensures label { local_text (local_in (Zone.Fixed (negsuc 299)) (pos 15791400)) ≡ codes "2000-01-10 01:00 -05:00" }
 {}
 
-/// Proves the zone of an example file, and that the file cut short, or no bytes at all, have none.
-/// Also proves that the rule of the example file for New York gives the clock type of the last row
-/// of its table, but not if this row, the end of daylight saving time, is a week too early.
+/// Proves the zone of a file for a clock one hour ahead of universal time, and that this file cut
+/// short, or no bytes at all, have none. Also proves that the rule of the example file for New York
+/// gives the clock type of its table's last row, the end of daylight saving time at the second
+/// 941954400 (1999-10-31T06:00Z), but not if this row is a week too early (941349600).
 pub fn worked_zone_files()
     ensures consistent { is_consistent (new_york_to (pos 941954400)) ≡ true }
     ensures inconsistent { is_consistent (new_york_to (pos 941349600)) ≡ false }

@@ -3,8 +3,10 @@ use Rattle.std.specs.Prelude.{◌≡◌, ℕ, ◌+◌, ◌*◌, ◌^◌, ◌<◌
 use Rattle.decimal_text.specs.declared.steps.Steps.{Steps}
 
 -- `DigitsInvariant places count n s`: true of the state s after `count` digits, which write the
--- number n: its `value` is n without the digits after the first `places`, of which there are
--- `extra`, and `exact` is true if these are all 0
+-- number n. Its `value` is the number that the first `places` of them write, and its `remaining`
+-- is how many of the first `places` digits are still to be read. `extra` is the number of digits
+-- after these, and its `exact` is true exactly if they are all 0. `small` says that the number of
+-- steps, whatever digits follow, is below 10^9.
 pub record DigitsInvariant (places count n : ℕ) (s : Steps) : Type 0 where
   pub extra : ℕ
   pub counted : count + s.remaining ≡ places + extra

@@ -16,8 +16,9 @@ abbrev pub with_absent : ℕ → Constants → Constants
 with_absent n c = record c { amplitude = c.amplitude ++ replicate n (pos 0); epoch = c.epoch ++ replicate n (pos 0) }
 
 -- `HasRead d e count bytes rest`: true if reading the first `count` lines of the bytes leads from
--- the state d to the valid state e, and `rest` is what follows them: reading the bytes from d gives
--- what reading `rest` from e gives, with line numbers greater by `count`
+-- the state d to the state e, and `rest` is the bytes after them. That is: e is valid, and reading
+-- all the bytes in the state d has the same result as reading `rest` in the state e, if lines are
+-- numbered from n in one and from n + `count` in the other.
 pub record HasRead (d e : BookParser) (count : ℕ) (bytes rest : List ℕ) : Type 0 where
   pub valid : IsBookParser e
   pub same : (n : ℕ) → with_bytes d n bytes ≡ with_bytes e (n + count) rest

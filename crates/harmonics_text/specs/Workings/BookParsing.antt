@@ -108,7 +108,8 @@ pub record AreConstants (count : ℕ) (c : Constants) : Type 0 where
   pub amplitude : All (IsWithin (negsuc 9999999999) (pos 10000000000)) c.amplitude
   pub epoch : All (IsWithin (negsuc 7199999999) (pos 7200000000)) c.epoch
 
--- the constants of a station, of which all lines were read, as a station of a book
+-- the station of a book with the values of `c`, a station all of whose amplitudes and epochs were
+-- read
 abbrev pub station_of : Constants → Station
 station_of c = record {
   name = c.name;
@@ -138,8 +139,9 @@ IsAngles h values = AreValues (negsuc 7199999999) (pos 7200000000) (length h.con
 abbrev pub IsFactors : Heading → List ℤ → Type 0
 IsFactors h values = AreValues (pos 0) (pos 10000000) (length h.constituents) h.years values
 
--- true of a valid state of the parser: the values read before are in the ranges of a file, and as
--- many as the state says
+-- true of a valid state of reading a harmonics file. The state names the line expected next and has
+-- the values of the lines before it: these are in the ranges of a valid book (`IsBook`), and there
+-- are as many as the lines before that one give.
 abbrev pub IsBookParser : BookParser → Type 0
 IsBookParser parsing.Count = Unit {0}
 IsBookParser (parsing.Constituents remaining earlier) = (1 ≤ remaining) × (remaining + length earlier ≤ 500) × All IsConstituent earlier
@@ -187,7 +189,7 @@ with_constituents remaining cs = if nat_lt 1 remaining then parsing.Constituents
 unfoldable pub after_constituent : ℕ → List Constituent → List ℕ → Result BookParser Why
 after_constituent remaining earlier text = constituent_of earlier text >>= λ c. Ok (with_constituents remaining (earlier ++ c ∷ []))
 
--- a table of which no line was read
+-- the state of a table of which no line was read: the first constituent's name is expected
 abbrev pub new_table : Table
 new_table = record { index = 0; remaining = 0; values = [] }
 
@@ -217,7 +219,8 @@ unfoldable pub after_name : Table → ℕ → List ℕ → List ℕ → Result T
 after_name t years name text = named name text >>= λ _. Ok (record { index = t.index; remaining = years; values = t.values })
 
 -- `after_table_line s h t text`: the incomplete table t, for the constituents and years of the
--- heading h, after its next line: a constituent's name, or values of the kind s
+-- heading h, after its next line `text`, or the reason why the line is bad: it is values of the
+-- kind s if a constituent still lacks some, else the next constituent's name
 unfoldable pub after_table_line : Scale → Heading → Table → List ℕ → Result Table Why
 after_table_line s h t text =
     if nat_lt 0 t.remaining then after_values s t text
@@ -272,8 +275,9 @@ after_pair b c text =
     pair_of (slice_index_or b.constituents (length c.amplitude) (record { name = []; speed = pos 0 })).name text
     >>= λ p. Ok (with_pair b (record c { amplitude = c.amplitude ++ p.0 ∷ []; epoch = c.epoch ++ p.1 ∷ [] }))
 
--- `after_record b record text`: the state after `text`, a station's next line; `record` has the
--- station's earlier lines, and b the complete stations
+-- `after_record b record text`: the state of reading after `text`, the next line of a station, or
+-- the reason why the line is bad; `record` has the values of the station's earlier lines, and the
+-- book b has the stations before it
 unfoldable pub after_record : Book → Record → List ℕ → Result BookParser Why
 after_record b records.Nothing text = after_nothing b text
 after_record b (records.Name name) text = local_time_of text >>= λ t. Ok (parsing.Stations b (records.LocalTime name t))
@@ -312,7 +316,8 @@ book_at b (records.Name n) = None
 book_at b (records.LocalTime n p) = None
 book_at b (records.Constants c) = None
 
--- the book if the file may end in this state, else None
+-- the book if the file may end in this state of reading: after the second `*END*`, and not between
+-- the first and the last line of a station; else None
 abbrev pub book_in : BookParser → Option Book
 book_in parsing.Count = None
 book_in (parsing.Constituents remaining earlier) = None
