@@ -50,8 +50,9 @@ abbrev pub source_within : Bool → Source
 source_within true = memory
 source_within false = given
 
--- `Excused is_out_of_memory expected fault`: for a step that calls no outside object: true if
--- memory ran out, or if the error is the expected result
+-- `Excused is_out_of_memory expected fault`: true if memory ran out (`is_out_of_memory` is true),
+-- or if the error `fault` is `expected`, the result by definition; for functions that call no
+-- object outside the program
 abbrev pub Excused : {T E : Type 0} → Bool → Result T E → E → Type 0
 Excused is_out_of_memory = Excuses (source_within is_out_of_memory) (Unit {0})
 

@@ -4,8 +4,9 @@ use Rattle.std.specs.Prelude.{pos, [], ◌∷◌, codes}
 use Rattle.harmonics_book.specs.declared.book.Book.{Book}
 use Rattle.harmonics_book.specs.declared.book.Units.TheVariants.{Feet}
 
--- the book of a station with a tide of period 12 hours and amplitude 1 foot, for the years 1999 to
--- 2001
+-- an example of a book, for the years 1999 to 2001: the one constituent S2, with a period of 12
+-- hours (30 degrees an hour), equilibrium arguments of 0 and node factors of 1, and the one station
+-- Pier, where it has an amplitude of 1 foot and an epoch of 0; the datum is 0
 abbrev pub pier_book : Book
 pier_book = record {
   constituents = record { name = codes "S2"; speed = pos 300000000 } ∷ [];

@@ -108,8 +108,8 @@ in_scale s (Err decimals.BadForm) = Err BadNumber
 in_scale s (Err decimals.TooLong) = Err BadNumber
 
 -- `parse_number s text`: the decimal that the text writes, as a whole number in the unit of the
--- kind s (Speed, Angle, Factor or Height), or BadNumber, TooFine or OutOfRange, the first that
--- applies
+-- kind s: ten-millionths of a degree (Angle) or of a degree an hour (Speed), or millionths (Factor,
+-- Height). Otherwise the first that applies of BadNumber, TooFine and OutOfRange.
 unfoldable pub parse_number : Scale → List ℕ → Result ℤ Why
 parse_number s text = in_scale s (read_of text (places_of s))
 

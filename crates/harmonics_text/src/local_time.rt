@@ -20,7 +20,8 @@ use crate::names::utf8_of;
 use decimal_text::{Text, digits, split_sign};
 use std::alloc::Global;
 
-/// A station's meridian and the name of its time zone.
+/// A station's meridian, which is its local time less universal time in minutes, and the name of
+/// its time zone.
 #[derive(Drop)]
 pub struct LocalTime {
     /// The station's local time less universal time, in minutes, from -959 to 959: positive east of

@@ -3,8 +3,8 @@
 ghost use Rattle.std.specs.Prelude.{◌≡◌, ◌≤◌};
 ghost use Rattle.harmonics_text.specs.Rules.{places_of, least_of, most_of};
 
-/// The kind of a decimal in a harmonics file. It determines the unit, with the decimal places that
-/// count, and the range.
+/// The kind of a decimal in a harmonics file: a speed, an angle, a node factor or a height. It
+/// determines the unit, with the decimal places that count, and the range.
 #[derive(Clone, Copy)]
 pub enum Scale {
     /// A constituent's speed, in ten-millionths of a degree per hour: from 0 to 360 degrees per

@@ -12,7 +12,7 @@ use crate::table::OffsetTable;
 use decimal_text::Text;
 use harmonics_book::{Book, ValidBook};
 
-/// The reason why a name has no basis (a reference station and offsets).
+/// The reason why no reference station and offsets (a basis) were found for the name of a station.
 #[derive(Clone, Copy, Debug, PartialEq, Eq)]
 pub enum FindFault {
     /// Neither the book nor the table has a station with the name.

@@ -9,7 +9,8 @@ ghost use Rattle.station_table.specs.Table.{columns_of, has_columns, header_of, 
 use crate::fault::{OffsetFault, OffsetWhy};
 use csv::ByteRecord;
 
-/// The header of a table of offsets, which says which columns it has.
+/// The header of a table of offsets: it has the eight columns for high and low waters, or these and
+/// two more, with minutes for slack waters.
 #[derive(Clone, Copy)]
 pub enum Header {
     /// The eight columns of a table with only offsets of high and low waters.

@@ -74,6 +74,7 @@ date_text day =
     two_digits ((date_of day).year / 100) ++ two_digits ((date_of day).year % 100)
     ++ codes "-" ++ two_digits (date_of day).month ++ codes "-" ++ two_digits (date_of day).day
 
--- `clock_text minutes`: `minutes`, which are below 6000, as hours and minutes, such as `05:30`
+-- `clock_text minutes`: `minutes` as hours and minutes, each of two digits, such as `05:30`; of 100
+-- hours or more only the last two digits
 unfoldable pub clock_text : ℕ → List ℕ
 clock_text minutes = two_digits (minutes / 60) ++ codes ":" ++ two_digits (minutes % 60)

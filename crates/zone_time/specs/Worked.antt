@@ -46,9 +46,10 @@ rows_to last =
     ∷ record { second = last; before = daylight.seconds; after = standard }
     ∷ []
 
--- `new_york_to last`: the example zone file for New York, with mean time before its table, and the
--- table's last row, the end of daylight saving time, at the second `last`, counted from
--- 1970-01-01T00:00Z
+-- `new_york_to last`: an example zone file for New York. Its table has mean time (4:56:02 behind
+-- universal time) before November 1883, then standard time (5:00 behind), from March 1999 daylight
+-- saving time (4:00 behind), and standard time from the second `last` on, counted from
+-- 1970-01-01T00:00Z. Its rule has daylight saving time from March to November.
 abbrev pub new_york_to : ℤ → TzifText
 new_york_to last = record { version = 50; first = mean; transitions = rows_to last; rule = Some eastern }
 

@@ -30,8 +30,8 @@ pub fn write_date<const N: usize>(day: i64, out: &mut ArrayString<N>)
     push_pair(date.day as u32, out);
 }
 
-/// Appends `minutes`, which are below 6000, to `out` as hours and minutes, such as `05:30`, 5
-/// bytes. Nothing is allocated.
+/// Appends `minutes` to `out` as hours and minutes, such as `05:30`, 5 bytes. Of 100 hours or more,
+/// only the last two digits are written. Nothing is allocated.
 #[tactic(auto, unfolding(crate::specs::Dates::clock_text))]
 pub fn write_clock<const N: usize>(minutes: u32, out: &mut ArrayString<N>)
     requires room { array_string_len out.old + 5 ≤ N }

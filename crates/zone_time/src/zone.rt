@@ -8,7 +8,8 @@ use crate::local::Local;
 use crate::zone_clock::ZoneClock;
 use crate::zone_file::ZoneFile;
 
-/// A time zone, in which local times are shown.
+/// A time zone, in which local times are shown: universal time, a fixed offset from it, or the zone
+/// of a zone file.
 #[derive(Drop)]
 pub enum Zone {
     /// Universal time.
