@@ -302,7 +302,7 @@ fn after_years(
     Ok(BookParser::Angles(heading, start_table(alloc)))
 }
 
-/// Returns the state with `table`, the equilibrium arguments read until now: `*END*` is expected
+/// Returns the state with `table`, the equilibrium arguments read so far: `*END*` is expected
 /// next if it is complete, else its next line.
 fn with_angles(heading: Heading, table: Table) -> BookParser
     ensures { result ≡ with_angles heading table }
@@ -352,7 +352,7 @@ fn after_years_again(
     read.and(Ok(BookParser::Factors(heading, angles, start_table(alloc))))
 }
 
-/// Returns the state with `table`, the node factors read until now: `*END*` is expected next if it
+/// Returns the state with `table`, the node factors read so far: `*END*` is expected next if it
 /// is complete, else its next line.
 fn with_factors(heading: Heading, angles: Numbers, table: Table) -> BookParser
     ensures { result ≡ with_factors heading angles table }

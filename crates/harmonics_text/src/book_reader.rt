@@ -23,11 +23,11 @@ use std::marker::Model;
 #[derive(Drop)]
 pub struct BookReader {
     alloc: Global,
-    /// The state of reading after all bytes fed until now; after a fault it isn't used.
+    /// The state of reading after all bytes fed so far; after a fault it isn't used.
     progress: Progress,
     /// The fault that `feed` returned, or `None`.
     fault: Option<BookFault>,
-    /// All bytes fed until now, which exist only in contracts.
+    /// All bytes fed so far, which exist only in contracts.
     history: Log<u8>,
 }
 

@@ -50,14 +50,14 @@ impl Pending {
         self.kept.is_empty()
     }
 
-    /// Borrows the kept bytes: the line read until now, or `#` if it is a comment.
+    /// Borrows the kept bytes: the line read so far, or `#` if it is a comment.
     pub fn as_slice(&self) -> &[u8]
         ensures { result.now ≡ self.now }
     {
         self.kept.as_slice()
     }
 
-    /// Returns the number of bytes of the line read until now, from 0 to 4,096, or 0 if the line is
+    /// Returns the number of bytes of the line read so far, from 0 to 4,096, or 0 if the line is
     /// a comment.
     pub fn count(&self) -> u32
         ensures { result ≡ (if is_comment self.now then 0 else length self.now) }

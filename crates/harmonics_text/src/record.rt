@@ -28,10 +28,10 @@ pub struct Constants {
     pub datum: i64,
     /// The unit of the datum and of the amplitudes.
     pub units: Units,
-    /// The amplitudes read until now, in millionths of `units`, in the order of the book's
+    /// The amplitudes read so far, in millionths of `units`, in the order of the book's
     /// constituents.
     pub amplitude: Column,
-    /// The epochs read until now, in ten-millionths of a degree, in the order of the book's
+    /// The epochs read so far, in ten-millionths of a degree, in the order of the book's
     /// constituents.
     pub epoch: Column,
 }

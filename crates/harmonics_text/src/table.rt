@@ -32,7 +32,7 @@ pub struct Table {
     pub index: usize,
     /// How many values of this constituent are still to be read: 0 if its name is expected next.
     pub remaining: u32,
-    /// The values read until now, in the unit of the table: for each constituent in order, a value
+    /// The values read so far, in the unit of the table: for each constituent in order, a value
     /// for each year.
     pub values: Column,
 }

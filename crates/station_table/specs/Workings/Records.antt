@@ -31,7 +31,7 @@ abbrev pub held : Bor (List ℕ) → Option (List ℕ)
 held bytes = Some bytes.now
 
 -- `HasGiven text rows records`: the iterator `records` over the records of `text` has returned
--- exactly `rows` until now, and can return the next one; it reads by the default rules of the crate
+-- exactly `rows` so far, and can return the next one; it reads by the default rules of the crate
 -- `csv`
 pub record HasGiven (text : List ℕ) (rows : List (List (List ℕ))) (records : Records) : Type 0 where
   pub trim : reader_trim (owned_rows_reader records) ≡ trim.None
