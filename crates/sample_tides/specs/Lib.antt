@@ -1,3 +1,4 @@
 pub mod Generator
 pub mod Parts
+pub mod Texts
 pub mod File

@@ -1,5 +1,9 @@
 //! Texts shared by the tests of several crates.
 
+ghost use Rattle.std.specs.Prelude.{◌≡◌, IfOk, map};
+ghost use Rattle.std.specs.List.{slice_split};
+ghost use Rattle.sample_tides.specs.Texts.{is_bar, words_in};
+
 use decimal_text::{Text, Words};
 use std::alloc::{AllocError, Global};
 
@@ -17,17 +21,32 @@ pub const DAY: &str = "Pier\n\
     2000-01-10 18:00 UTC      -1.00 feet  Low Tide\n\
     2000-01-10 23:59 UTC       1.00 feet  High Tide\n";
 
-/// Returns the parts of `line` between its `|`: none if `line` is empty.
+fn parts(alloc: Global, line: &str) -> Result<Vec<&str>, AllocError>
+    ensures { IfOk result (λ v. map (λ part. part.now) v.items ≡ slice_split is_bar line.now) }
+{
+    line.split('|').collect(alloc)
+}
+
+fn texts(alloc: Global, parts: &[&str]) -> Result<Vec<Text>, AllocError>
+    ensures { IfOk result (λ v. v.items ≡ map (λ part. part.now) parts.now) }
+{
+    let mut texts = Vec::new(alloc);
+    for part in parts {
+        texts.push(Text::from_str(alloc, part)?)?;
+    }
+    Ok(texts)
+}
+
+/// Returns the parts of `line` between its `|`, empty ones included; no part if `line` is empty.
 ///
 /// # Errors
 /// [`AllocError`] if memory runs out.
-pub fn words_of(alloc: Global, line: &str) -> Result<Words, AllocError> {
-    let mut words = Vec::new(alloc);
+pub fn words_of(alloc: Global, line: &str) -> Result<Words, AllocError>
+    ensures { IfOk result (λ words. words ≡ words_in line.now) }
+{
     if line.is_empty() {
-        return Ok(Words::from_vec(words));
+        return Ok(Words::from_vec(Vec::new(alloc)));
     }
-    for word in line.split('|') {
-        words.push(Text::from_str(alloc, word)?)?;
-    }
-    Ok(Words::from_vec(words))
+    let parts = parts(alloc, line)?;
+    Ok(Words::from_vec(texts(alloc, &parts)?))
 }

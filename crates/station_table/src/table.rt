@@ -38,8 +38,8 @@ impl OffsetTable {
         }
     }
 
-    /// Appends `row`, with valid names and offsets in their ranges, as the last row. The table has
-    /// fewer than 2^32 rows afterwards.
+    /// Appends `row`, with valid names and offsets in their ranges, as the last row. The caller
+    /// ensures that the table then has fewer than 2^32 rows.
     ///
     /// # Errors
     /// - [`AllocError`]: when memory runs out.
