@@ -38,8 +38,9 @@ TakesItsArguments = (sheets : List SheetSpec) (arguments : List (List ℕ)) (cer
     question_of_words sheets (codes "certify" ∷ arguments) ≡ Ok certify →
     question_of_words sheets (codes "predict" ∷ arguments) ≡ Ok (record certify { command = Predict; zone = Utc; layout = Plain })
 
--- For a text that `certify` returned, `check` prints `Accepted`, and then what `predict` prints with the
--- arguments of `certify`, if the check names the same files, in universal time.
+-- For a text that `certify` returned, `check` prints `Accepted`, and then what `predict` prints
+-- with the arguments of `certify`, if the request to check names the same harmonics file and table,
+-- and its zone is universal time.
 abbrev pub CheckShowsSameArguments : Type 0
 CheckShowsSameArguments = (sheets : List SheetSpec) (before after : Folder) (minute later last : ℤ) (arguments more : List (List ℕ))
     (certify check : Question) (certificate : Answer) →

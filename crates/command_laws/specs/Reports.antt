@@ -49,8 +49,9 @@ pub record ShowOneList (sheets : List SheetSpec) (report predict : Question) (no
   pub all : listing.text ≡ events_text predict.layout listed.name listed.units listed.events zone
   pub shown : IsReport sheets (wanted_by report) (head_of listed now) listed.events pages.text
 
--- If `report` has an answer at a minute, `predict` has an answer for the same station, span, mark and
--- files at any minute, in any zone that can be read and in any layout; and both show one list of events.
+-- If `report` has an answer at a minute, `predict` has an answer for the same station, span, mark
+-- and files at any minute, in any zone that can be read and in any layout; and both show the same
+-- list of events (each page of the report as far as its sheet's limit).
 abbrev pub ReportsAreComplete : Type 0
 ReportsAreComplete = (sheets : List SheetSpec) (folder : Folder) (now later : ℤ) (words more : List (List ℕ))
     (report predict : Question) (pages : Answer) (zone : Zone) →

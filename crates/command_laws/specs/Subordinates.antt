@@ -91,8 +91,9 @@ has_too units basis event = asks_slack units basis || not (is_slack event.kind)
 abbrev pub has_own_slack : Units → Basis → Bool
 has_own_slack units basis = asks_slack units basis && is_none basis.slack && not (int_eq basis.high.plus (pos 0))
 
--- the events of the reference station, each moved and scaled by the offset of its kind; of these the
--- events within the span from `begin` to `end`, in the order of listing
+-- the events of the reference station (without slack waters if the station's aren't listed), each
+-- moved and scaled by the offset of its kind; of these the events from `begin` up to but not
+-- including `end`, sorted by minute, then by kind, then by level
 abbrev pub second_step : Units → Basis → ℤ → ℤ → List Event → List Event
 second_step units basis begin end events = ordered (moved_within basis begin end (filter (has_too units basis) events))
 
@@ -114,8 +115,9 @@ pub record AreTwoSteps (book : Book) (table : List Offsets) (question reference 
   pub all : has_own_slack units basis ≡ false → MeansOneMark basis question.mark reference.mark →
       events ≡ second_step units basis begin end of_reference
 
--- the events of a subordinate station are the events of its reference station, moved and scaled by its
--- offsets, as far as `AreTwoSteps` says
+-- the high and low waters of a subordinate station are its reference station's, moved and scaled by
+-- its offsets; so are all its events, if the marks of the two requests correspond and the station's
+-- slack waters, if listed, are the reference's (`AreTwoSteps`)
 abbrev pub ListsInTwoSteps : Type 0
 ListsInTwoSteps = (book : Book) (table : List Offsets) (question reference : Question) (inputs there : Given) →
     (row : Offsets) (basis : Basis) (begin end : ℤ) (answer first : Answer) →
@@ -123,8 +125,8 @@ ListsInTwoSteps = (book : Book) (table : List Offsets) (question reference : Que
     answered book table question inputs ≡ Ok answer → answered book table reference there ≡ Ok first →
     AreTwoSteps book table question reference inputs there row basis begin end answer first
 
--- the request about the reference station has an answer if the request about the subordinate station has
--- one and the reference's span isn't too long
+-- the request about the reference station has an answer if the request about the subordinate
+-- station has one and the reference's span has at most 5,270,400 minutes
 abbrev pub ReferenceIsAnswered : Type 0
 ReferenceIsAnswered = (book : Book) (table : List Offsets) (question reference : Question) (inputs there : Given) →
     (row : Offsets) (basis : Basis) (begin end : ℤ) (answer : Answer) →

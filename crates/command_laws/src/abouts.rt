@@ -19,9 +19,10 @@ pub fn about_bounds_the_printed_turns()
     predicted_agreements();
 }
 
-/// Proves, for a half-daily tide as an example, that the level rises in the minute before a high water
-/// and falls in the minute after it, each time by about half of the bound that `about` prints as
-/// `agreement`. The bound is in units of which about 1.4257 * 10^35 are a foot a minute.
+/// Proves, for a half-daily tide as an example, that the level rises in the minute before a high
+/// water and falls in the minute after it, each time by about half of the bound that `about` prints
+/// as `agreement`; these minutes are at least an hour from a new year (`outside`). The bound is in
+/// units of which about 1.4257 * 10^35 are a foot a minute.
 pub fn worked_turns()
     ensures unit { unit_of_bound ≡ 142570234078617600000000000000000000 }
     ensures bound { predicted_agreement pier_book pier ≡ pos 10982486704628157235200000000000 }

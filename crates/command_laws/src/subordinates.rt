@@ -27,8 +27,10 @@ pub fn subordinates_list_in_two_steps()
     ensures answered { ReferenceIsAnswered }
 {}
 
-/// Proves an example: the high water of a reference station, and the high water of a subordinate station
-/// 30 minutes later, at twice the level plus 0.5 feet. Also proves that requests about both have an
+/// Proves an example: the high water of a reference station, and the high water of a subordinate
+/// station (Outer, a row of an example table) 30 minutes later, at twice the level plus 0.5 feet.
+/// The list of the subordinate station over one minute needs the reference's list over the minute
+/// that is 30 minutes earlier (`widened`). Also proves that requests about both stations have an
 /// answer.
 pub fn worked_steps()
     ensures widened { widened_of harbour (pos 15791789) (pos 15791790) ≡ record { begin = pos 15791759; end = pos 15791760 } }
