@@ -29,8 +29,8 @@ pub fn value_at<C: Curve>(curve: &mut C, m: i64) -> Option<i128> {
     }
 }
 
-/// Returns the level, in millionths, of an event of `curve` after minute `m`, or `None` if `m` isn't
-/// one of the curve's minutes.
+/// Returns the level, in millionths of the unit, with which an event of `curve` between the minutes
+/// `m` and `m` + 1 is listed, or `None` if `m` isn't one of the curve's minutes.
 pub fn note_at<C: Curve>(curve: &C, m: i64) -> Option<i64> {
     if has_minute(curve, m) {
         Some(curve.note(m))
