@@ -27,8 +27,8 @@ const TABLE: &str =
 const SHORT: &str =
     "name,reference,high_add,low_add,high_times,low_times,high_plus,low_plus\nDock,Pier,0:30,-0:10,1.1,0.9,0.1\n";
 
-/// Runs that also read an offsets table, a zone file, a certificate or the clock, each with the first
-/// fault in the order of reading.
+/// Runs that read an offsets table, a zone file, a certificate or the clock after the harmonics
+/// file, each with the first fault in the order of reading.
 pub static FILES: [Case<'static>; 12] = [
     Case {
         words: OFFSETS,
