@@ -72,8 +72,10 @@ abbrev pub IsShown : Slot → Bool → List Opening → Folder → Type 0
 IsShown slot firm [] folder = Unit {0}
 IsShown slot firm (opening ∷ more) folder = Shows (limit_of slot) firm opening (folder opening.name)
 
--- the file called `name`, if there is a name, was opened once, unless memory ran out before; and the
--- result is the expected one for any contents that agree with the bytes that were read
+-- between the states `before` and `after` of the log of opened files, the file called `name`, if
+-- there is a name, was opened once, unless memory ran out before; and the result meets (`Meets`)
+-- what `expected` gives for any contents of this file, of the kind `slot`, that agree with the
+-- bytes that were read of it
 pub record Opened {T : Type 0} (slot : Slot) (name : Option (List ℕ)) (expected : Folder → Result T RunFault)
     (before after : Openings) (result : Result T RunFault) : Type 0 where
   pub open_log : List Opening
@@ -83,9 +85,10 @@ pub record Opened {T : Type 0} (slot : Slot) (name : Option (List ℕ)) (expecte
   pub whole : OnOk result (unopened ≡ [])
   pub answer : (firm : Bool) (folder : Folder) → IsShown slot firm open_log folder → Meets source_of (IsTrue firm) (expected folder) result
 
--- files were opened in the order of the wanted names, each once, and none after the file that is the
--- reason why there is no answer; and the result is the expected one for any contents that agree with the
--- bytes that were read
+-- between the states `before` and `after` of the log of opened files, files were opened in the
+-- order of the names that `wanted` gives, each once, and none after the file that is the reason why
+-- there is no answer; and the result meets (`Meets`) what `expected` gives for any contents of the
+-- files that agree, by `shows`, with the bytes that were read of them
 pub record IsResultOf {T : Type 0} (wanted : Option Slot → List (List ℕ)) (shows : Bool → List Opening → Folders → Type 0)
     (expected : Folders → Result T RunFault) (before after : Openings) (result : Result T RunFault) : Type 0 where
   pub open_log : List Opening
@@ -94,9 +97,11 @@ pub record IsResultOf {T : Type 0} (wanted : Option Slot → List (List ℕ)) (s
   pub names : wanted (failing_file result) ≡ map (λ o. o.name) open_log ++ unopened
   pub answer : (firm : Bool) (folders : Folders) → shows firm open_log folders → Meets source_of (IsTrue firm) (expected folders) result
 
--- the files of a request were opened in the order of reading, each once, and none after the file that is
--- the reason why there is no answer; and the result is the one for any contents that agree with the
--- bytes that were read
+-- between the states `before` and `after` of the log of opened files, the files of the request
+-- `question` were opened in the order of reading (the harmonics file, called `name`, is the first),
+-- each once, and none after the file that is the reason why there is no answer; and the result
+-- meets (`Meets`) the expected one for any contents of the files that agree with the bytes that
+-- were read of them
 pub record AreOpened (question : Question) (name : List ℕ) (before after : Openings) (result : Result Materials RunFault) : Type 0 where
   pub open_log : List Opening
   pub unopened : List (List ℕ)

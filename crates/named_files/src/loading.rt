@@ -13,7 +13,7 @@ use harmonics_text::{BookFault, BookReader};
 use std::alloc::{AllocError, Global};
 use tide_edge::{Files, ReadAllFault, Receiver, pass_file};
 
-/// The reason why a book couldn't be loaded from a file.
+/// The reason why a book (the contents of a harmonics file) couldn't be loaded from a file.
 #[derive(Clone, Copy, Debug, PartialEq, Eq)]
 pub enum LoadFault {
     /// The file couldn't be opened or read.
@@ -24,11 +24,11 @@ pub enum LoadFault {
     Book(BookFault),
 }
 
-/// Returns the book in the file `name` of `files`, if the file has at most `limit` bytes; `limit`
-/// is at most 400,000,000. The file is read in pieces of at most 65,536 bytes, which aren't kept,
-/// and to its end also after a bad line, so that a failed read is reported rather than the bad
-/// line. Whatever the result, the file is opened at most once, its end is found at most once, and
-/// at most `limit` + 65,536 bytes are read.
+/// Returns the book (constituents, years and stations) in the harmonics file `name` of `files`, if
+/// the file has at most `limit` bytes; `limit` is at most 400,000,000. The file is read in pieces
+/// of at most 65,536 bytes, which aren't kept. It is read to its end also after a bad line, so that
+/// a failed read is reported rather than the bad line. Whatever the result, the file is opened at
+/// most once, its end is found at most once, and at most `limit` + 65,536 bytes are read.
 ///
 /// # Errors
 /// [`LoadFault::Failed`]: exactly if opening or reading fails, so that `files` counts one more

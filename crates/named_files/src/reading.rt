@@ -37,9 +37,10 @@ use tide_edge::{Files, ReadAllFault, read_all};
 use tide_fault::{Fault, Refusal, Slot};
 use zone_time::{Zone, ZoneFault, read_zone};
 
-/// Returns the contents of the files that `question` names. They are read in this order: the harmonic
-/// constants, in the file `name`, the table, the zone and the certificate. Each file is opened once, and
-/// its contents are checked before the next is opened; after a fault none is opened.
+/// Returns the contents of the files that `question` names. They are read in this order: the
+/// harmonics file, called `name`; then the table of offsets, the zone file and the certificate, as
+/// far as `question` names them. Each is opened once, and its contents are checked before the next
+/// is opened; after a fault none is opened.
 ///
 /// # Errors
 /// [`RunFault::Unread`] if a file can't be opened or read, and [`RunFault::Faulty`] if a file is too

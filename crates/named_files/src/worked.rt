@@ -18,9 +18,14 @@ ghost use Rattle.named_files.specs.Worked.{pier_alone};
 
 use crate::run_fault::RunFault;
 
-/// Proves examples of reading a request's files: with an empty file under each name the first fault is
-/// the harmonics file's, and with a harmonics file only, a request that names another file ends with a
-/// read fault.
+/// Proves examples of reading a request's files.
+///
+/// - `form_before_table`: if all files are empty, the reported fault is the harmonics file's, not
+///   the table's.
+/// - `alone`: a request that names only a harmonics file is given its contents, a table without
+///   rows, universal time and an empty certificate.
+/// - `absent_table`, `absent_zone`, `absent_certificate`: a request that also names a file that
+///   doesn't exist ends with a read fault.
 pub fn worked_files()
     ensures form_before_table { files_in (λ slot name. Some [])
         (record (bare Command.Stations) { offsets = Some (codes "o.csv") }) (codes "pier.txt")
@@ -35,8 +40,9 @@ pub fn worked_files()
         (codes "pier.txt") ≡ Err RunFault.Unread }
 {}
 
-/// Proves examples of reasons why there is no answer, with the line that reports each and the exit
-/// status.
+/// Proves examples of reasons why there is no answer: row 2 of a table (counted from 0) names a
+/// reference station, Nowhere, that the harmonics file doesn't have, which has its own line and the
+/// exit status for a refused request; and a file can't be read, which has another status.
 #[tactic(auto, unfolding(tide_fault::specs::Faults::line_of, tide_fault::specs::Faults::refusal_line))]
 pub fn worked_faults()
     ensures reference { line_of (RunFault.Refused (Refusal.NoReference 2) dock_rows) ≡ codes "refused: no reference Nowhere\n" }
