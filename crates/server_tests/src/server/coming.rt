@@ -48,6 +48,10 @@ fn pieces_of(alloc: Global, coming: Coming<'_>) -> Result<Vec<Bytes>, AllocError
     }
 }
 
+/// Returns all of these requests, each as the nonempty pieces in which it arrives.
+///
+/// # Errors
+/// [`AllocError`] if memory runs out.
 pub fn requests_of(alloc: Global, all: &[Coming<'_>]) -> Result<Vec<Vec<Bytes>>, AllocError>
     ensures { IfOk result (λ requests. IsTrue (list_all (λ request. are_pieces request.items) requests.items)) }
 {
