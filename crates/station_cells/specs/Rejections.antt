@@ -53,15 +53,15 @@ abbrev pub fault_from : TrackName → Verdict → Option Rejection
 fault_from track Accepted = None
 fault_from track finding = Some (Track track finding)
 
--- the fault of a track over the minutes of `span`, or None if its cells follow from the curve, or if
--- there is no curve or no list of cells
+-- the fault of a track over the minutes of `span`, or None if its cells cover the span and agree
+-- with the curve, or if there is no curve or no list of cells
 abbrev pub track_fault : Span → TrackName → Option CurveSpec → Option (List Cell) → Option Rejection
 track_fault span track (Some curve) (Some cells) = fault_from track (verdict curve span.begin (span_minutes span) cells)
 track_fault span track _ _ = None
 
--- the first fault of `tracks`, a certificate's cells for each curve, over the minutes of `span`, or None
--- if they are right: first whether the slack track is present exactly if there is its curve, and then
--- the cells of each track in turn
+-- the first fault of `tracks`, a certificate's cells for each curve, over the minutes of `span`, or
+-- None if they are right: first, the track of slack waters is present exactly if its curve is;
+-- then, in turn, the cells of each track cover the span and agree with its curve
 unfoldable pub rejection_of : Followed → Span → Tracks → Option Rejection
 rejection_of curves span tracks =
     option_or (option_or (option_or

@@ -26,9 +26,11 @@ use Rattle.tide_edge.specs.declared.writing.WriteFailed.{WriteFailed}
 use Rattle.tide_edge.specs.SinkStates.{SinkState, put, sink_failed}
 use Rattle.station_cells.specs.declared.sending.Sent.{Sent}
 
--- `text`, the next part of a text of which `sent` counts what was written before, was written whole, and
--- the result has the counts after it; or a write failed, and only the first bytes of `text` were written
--- (the sink is in the state `before`, then `after`)
+-- `Sends before after sent text cells result`: a sink is in the state `before`, and `sent` counts
+-- what was written to it of a longer text. Then either `text`, the next part, is written whole, and
+-- the result has the counts plus the bytes of `text` and plus `cells`; or a write fails, only the
+-- first bytes of `text` are written, and the error has the number of bytes written of the longer
+-- text. The sink is then in the state `after`.
 abbrev pub Sends : SinkState → SinkState → Sent → List ℕ → ℕ → Result Sent WriteFailed → Type 0
 Sends before after sent text cells (Ok done) =
     (done.bytes ≡ sent.bytes + length text) × (done.cells ≡ sent.cells + cells) × (after ≡ put text before)
@@ -45,7 +47,8 @@ has_room held line = nat_le (length held + length line) 4096
 abbrev pub gone_for : List ℕ → List ℕ → List ℕ
 gone_for held line = if has_room held line then [] else held
 
--- the contents of a buffer, before with the contents `held`, after `line` was appended
+-- the contents of a buffer, which were `held`, after `line` was appended: both if the buffer has
+-- room for the line, else only the line, since `held` was written out first
 abbrev pub held_after : List ℕ → List ℕ → List ℕ
 held_after held line = if has_room held line then held ++ line else line
 

@@ -15,8 +15,10 @@ use curve_law::{Cell, Curve};
 use interval_search::Search;
 use tide_edge::{Sink, WriteFailed};
 
-/// Writes to `out` the heading line of `track` and the line of each remaining cell of `search`, or
-/// nothing if `search` is `None`. Returns the counts `sent` plus the bytes and cells written here.
+/// Writes to `out` a certificate's lines for the curve of `search`: the heading line of `track` and
+/// a line for each remaining cell (several minutes without an event, or one minute with or without
+/// one). Writes nothing if `search` is `None`. Returns the counts `sent` plus the bytes and cells
+/// written here.
 ///
 /// # Errors
 /// [`WriteFailed`] if a write to `out` fails: then only the first bytes of these lines are written.
@@ -40,8 +42,9 @@ pub fn send_if_followed<C: Curve + Drop, S: Sink>(
     }
 }
 
-/// Writes to `out` the heading line of `track` and the line of each remaining cell of `search`. Returns
-/// the counts `sent` plus the bytes and cells written here.
+/// Writes to `out` a certificate's lines for the curve of `search`: the heading line of `track` and
+/// a line for each remaining cell (several minutes without an event, or one minute with or without
+/// one). Returns the counts `sent` plus the bytes and cells written here.
 ///
 /// # Errors
 /// [`WriteFailed`] if a write to `out` fails: then only the first bytes of these lines are written.

@@ -14,9 +14,11 @@ use curve_law::{Cells, Curve, Tracks, Verdict};
 use event_list::Span;
 
 /// Returns the first fault of `tracks`, a certificate's cells for each curve, over the minutes of
-/// `span`, or `None` if they are right. The checks in order: the slack track is present exactly if there
-/// is a curve `slack`; the cells of each track follow from its curve. Each curve has a value at each
-/// minute of `span` and at its end, and hasn't been evaluated yet. The call doesn't allocate.
+/// `span`, or `None` if they are right. The checks in order: the slack track is present exactly if
+/// there is a curve `slack`; the cells of each track cover `span`, and each agrees with the track's
+/// curve (several minutes without an event by the curve's rate, one minute by its values). Each
+/// curve has a value at each minute of `span` and at its end, and hasn't been evaluated yet. The
+/// call doesn't allocate.
 #[tactic(auto, unfolding(crate::specs::Rejections::rejection_of))]
 pub fn rejection_over<A: Curve + Drop, B: Curve + Drop>(
     turn: A,

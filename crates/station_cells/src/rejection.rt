@@ -17,11 +17,15 @@ pub enum Rejection {
     SlackWanted,
     /// The certificate has cells for slack waters, but the station's slack waters aren't listed.
     SlackNotWanted,
-    /// The cells of this track don't follow from the curve; the verdict says why.
+    /// The cells of this track don't cover the span or don't agree with the curve; the verdict says
+    /// why.
     Track(TrackName, Verdict),
 }
 
 /// Returns the line, with its LF, that says why a certificate is rejected.
+///
+/// # Errors
+/// [`AllocError`] if memory runs out.
 #[tactic(auto, unfolding(crate::specs::Rejections::rejection_line))]
 pub fn rejection_line(alloc: Global, rejection: Rejection) -> Result<Bytes, AllocError>
     ensures { IfOk result (λ line. line ≡ rejection_line rejection) }

@@ -37,6 +37,9 @@ pub fn send<S: Sink>(out: &mut S, sent: Sent, piece: &str) -> Result<Sent, Write
 
 /// Writes to `out` the line that has `prefix`, `name` and an LF. Returns the counts `sent` plus the
 /// bytes of this line.
+///
+/// # Errors
+/// [`WriteFailed`] if a write to `out` fails: then only the first bytes of the line are written.
 pub fn send_name<S: Sink>(
     out: &mut S,
     sent: Sent,

@@ -10,9 +10,13 @@ use event_list::Span;
 use interval_search::search;
 use std::alloc::{AllocError, Global};
 
-/// Returns the cells of each curve over `span` (`slack` and `mark` only if present). A cell is a stretch
-/// of minutes without an event, or one minute that may have an event; cells are found by halving. Each
-/// curve has a value at each minute of `span` and at its end, and hasn't been evaluated yet.
+/// Returns the cells of each curve over `span` (`slack` and `mark` only if present). A cell is a
+/// stretch of minutes without an event, or one minute that may have an event; cells are found by
+/// halving. Each curve has a value at each minute of `span` and at its end, and hasn't been
+/// evaluated yet.
+///
+/// # Errors
+/// [`AllocError`] if memory runs out.
 pub fn tracks_over<A: Curve + Drop, B: Curve + Drop>(
     alloc: Global,
     turn: A,
