@@ -48,8 +48,11 @@ fn why_of(kind: ErrorKind) -> ArgumentError
     }
 }
 
-/// Returns all `arguments` except the first, which is the program's name, in the order of the command
-/// line.
+/// Returns all `arguments` except the first, which is the program's name, in the order of the
+/// command line.
+///
+/// # Errors
+/// [`AllocError`] if memory runs out.
 pub fn words_of(alloc: Global, mut arguments: Args) -> Result<Words, AllocError>
     ensures { IfOk result (λ words. words ≡ map string_bytes (drop 1 (into_iter_items arguments))) }
 {
