@@ -165,8 +165,9 @@ judged book site cert zone None =
     text_accepted (plain_events_of cert.station site.station.units (events_of book site (request_by_certificate cert)) zone)
 judged book site cert zone (Some rejection) = text_rejected (rejection_line rejection)
 
--- the answer of the command `check` for the text `bytes`: whether it is a valid certificate, or the
--- first refusal
+-- the answer of the command `check` for the text `bytes`: `Accepted` and the events of its station,
+-- span and mark if it is a valid certificate, the line with its first fault if it isn't valid; or
+-- the first refusal, also if it isn't a certificate
 unfoldable pub checked : Book → List Offsets → List ℕ → Zone → Result Answer Refusal
 checked book table bytes zone = do
   cert ← certificate_from (certificate_of bytes)
@@ -262,8 +263,9 @@ abbrev pub peak_judged : Book → Site → PeakCertificate → PeakVerdict → A
 peak_judged book site cert Accepted = text_accepted (highest_text_at book site cert.station cert.peak.at Utc)
 peak_judged book site cert verdict = text_rejected (verdict_line verdict)
 
--- the answer of the command `peakcheck` for the text `bytes`: whether it is a valid certificate of a
--- highest water, or the first refusal
+-- the answer of the command `peakcheck` for the text `bytes`: `Accepted` and the highest water if
+-- it is a valid certificate of one, the line with its fault if it isn't valid; or the first
+-- refusal, also if it isn't such a certificate
 unfoldable pub peak_checked : Book → List Offsets → List ℕ → Result Answer Refusal
 peak_checked book table bytes = do
   cert ← peak_from (peak_of bytes)

@@ -78,14 +78,14 @@ pub record IsTrueCertificate (book : Book) (table : List Offsets) (bytes : List 
       (followed book site (request_by_certificate certificate)) certificate.tracks
   pub listing : AcceptsListing (predicted book table certificate.station (request_by_certificate certificate) Plain zone) answer
 
--- each certificate that `check` accepts, whoever made it, has exactly the events of its station, span
--- and mark
+-- each certificate that `check` accepts, however it was made, has exactly the events of its
+-- station, span and mark
 abbrev pub AcceptsOnlyWhatIsTrue : Type 0
 AcceptsOnlyWhatIsTrue = (book : Book) (table : List Offsets) (bytes : List ℕ) (zone : Zone) (answer : Answer) →
     IsBook book → IsTable table → checked book table bytes zone ≡ Ok answer → answer.rejected ≡ false
     → IsTrueCertificate book table bytes zone answer
 
--- each certificate that `check` accepts, whoever made it, has fewer than 333,000,000 bytes
+-- each certificate that `check` accepts, however it was made, has fewer than 333,000,000 bytes
 abbrev pub AcceptsOnlyInShort : Type 0
 AcceptsOnlyInShort = (book : Book) (table : List Offsets) (bytes : List ℕ) (zone : Zone) (answer : Answer) →
     IsBook book → IsTable table → checked book table bytes zone ≡ Ok answer → answer.rejected ≡ false → length bytes < 333000000

@@ -80,13 +80,13 @@ pub record IsTruePeak (book : Book) (table : List Offsets) (bytes : List ℕ) (a
   pub value : certificate.peak.value ≡ pos 1000000 *ℤ predicted_level book site.station certificate.peak.at
   pub listing : AcceptsListing (highest book table certificate.station (request_by_peak_certificate certificate) Utc) answer
 
--- each certificate that `peakcheck` accepts, whoever made it, has the highest water of its station and
--- span
+-- each certificate that `peakcheck` accepts, however it was made, has the highest water of its
+-- station and span
 abbrev pub AcceptsOnlyTruePeaks : Type 0
 AcceptsOnlyTruePeaks = (book : Book) (table : List Offsets) (bytes : List ℕ) (answer : Answer) →
     IsBook book → IsTable table → peak_checked book table bytes ≡ Ok answer → answer.rejected ≡ false → IsTruePeak book table bytes answer
 
--- each certificate that `peakcheck` accepts, whoever made it, has fewer than 10,542,000 bytes
+-- each certificate that `peakcheck` accepts, however it was made, has fewer than 10,542,000 bytes
 abbrev pub AcceptsOnlyPeaksInShort : Type 0
 AcceptsOnlyPeaksInShort = (book : Book) (table : List Offsets) (bytes : List ℕ) (answer : Answer) →
     IsBook book → IsTable table → peak_checked book table bytes ≡ Ok answer → answer.rejected ≡ false → length bytes < 10542000

@@ -14,10 +14,10 @@ use station_span::{StationData, find_reference};
 use std::alloc::Global;
 use tide_fault::Refusal;
 
-/// Returns the answer of the command `about` for the station called `name`, one of `stations`: its
-/// reference, its unit, the number of its constituents, and a bound on the difference between its slope
-/// and the change of its level over a minute. About 1.4257 * 10^35 of the bound's units are one of the
-/// station's units a minute.
+/// Returns the answer of the command `about` for the station called `name`, one of `stations`: the
+/// name of its reference station, its unit, the number of its constituents, and a bound on the
+/// difference between the slope and the change of the level over a minute, at the reference
+/// station. About 1.4257 * 10^35 of the bound's units are one of the station's units a minute.
 ///
 /// # Errors
 /// The first [`Refusal`] in this order: the station isn't found, it is a hydraulic current, its

@@ -13,10 +13,11 @@ use rate_bound::Version;
 use station_cells::{Rejection, rejection_over};
 use station_span::{FoundStation, mark_curve, slack_curve, turn_curve};
 
-/// Returns the first fault of the tracks (lists of cells) of the certificate `cert`, or `None` if all
-/// are right. The checks in order: the slack track is present exactly if the station's slack waters are
-/// listed; each cell of each track follows from the curve, by the rules of the certificate's version.
-/// `found_station` was found for the station, span and mark of `cert`. The call doesn't allocate.
+/// Returns the first fault of the tracks (lists of cells) of the certificate `cert`, or `None` if
+/// all are right. The checks in order: the slack track is present exactly if the station's slack
+/// waters are listed; the cells of each track cover the span and agree with the track's curve, by
+/// the rules of the certificate's version. `found_station` was found for the station, span and mark
+/// of `cert`. The call doesn't allocate.
 pub fn find_rejection(found_station: &FoundStation, cert: &Certificate) -> Option<Rejection>
     requires purpose { found_station.now.purpose ≡ Purpose.Events }
     requires same { found_station.now.span_request ≡ request_by_certificate cert.now }

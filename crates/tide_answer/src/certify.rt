@@ -46,8 +46,11 @@ pub fn certify(
     })
 }
 
-/// Returns the certificate of version 2 with the station's name, the span and the mark of `request`, and
-/// with the cells `tracks`.
+/// Returns the certificate of version 2 with the station's name, the span and the mark of
+/// `request`, and with the cells `tracks`.
+///
+/// # Errors
+/// [`AllocError`] if memory runs out.
 pub fn certificate_of(
     request: &StationRequest<'_>,
     tracks: Tracks,

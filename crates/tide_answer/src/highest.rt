@@ -48,9 +48,12 @@ pub fn highest_answer(
     Ok(text_alone(text))
 }
 
-/// Returns the text of the command `highest` for the station called `name`: the name, and the minute and
-/// level of its highest water. `at` is the minute at the reference station; the station's minute is `at`
-/// plus the minutes of its high-water offset, in the local time of `zone`.
+/// Returns the text of the command `highest` for the station called `name`: the name, and the
+/// minute and level of its highest water. `at` is the minute at the reference station; the
+/// station's minute is `at` plus the minutes of its high-water offset, in the local time of `zone`.
+///
+/// # Errors
+/// [`AllocError`] if memory runs out.
 pub fn highest_text_at(
     alloc: Global,
     found_station: &FoundStation,

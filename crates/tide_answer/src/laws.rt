@@ -20,9 +20,9 @@ pub fn certified_is_short()
     certificates_are_short();
 }
 
-/// Proves that each certificate that the command `check` accepts is true, whoever made it: its cells
-/// have exactly the events of its station, span and mark, and the answer of `check` lists what `predict`
-/// lists for these.
+/// Proves that each certificate that the command `check` accepts is true, however it was made: its
+/// cells have exactly the events of its station, span and mark, and the answer of `check` lists
+/// what `predict` lists for these.
 pub fn accepted_is_true()
     ensures { AcceptsOnlyWhatIsTrue }
 {
@@ -31,7 +31,7 @@ pub fn accepted_is_true()
 }
 
 /// Proves that each certificate that the command `check` accepts has fewer than 333,000,000 bytes,
-/// whoever made it.
+/// however it was made.
 pub fn accepted_is_short()
     ensures { AcceptsOnlyInShort }
 {

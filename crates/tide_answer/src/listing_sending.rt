@@ -17,9 +17,9 @@ use station_cells::{LineBuffer, Sent, send_name};
 use tide_edge::{Sink, WriteFailed};
 use zone_time::ZoneClock;
 
-/// Writes to `out` one line for each remaining event of `merge`, with levels in `units` and times in the
-/// local time of `zone`. Returns `sent`, the numbers of bytes and cells written before, plus the bytes
-/// written here.
+/// Writes to `out` one line for each remaining event of `merge`, with levels in `units` and times
+/// in the local time of `zone`. Returns `sent`, the numbers of bytes and cells written before, plus
+/// the bytes written here. Afterwards the searches of `merge` have returned all their cells.
 ///
 /// # Errors
 /// [`WriteFailed`] if a write to `out` fails: then `out` has only the first bytes of these lines.
@@ -55,9 +55,9 @@ fn line_of(units: Units, event: &Event, zone: &ZoneClock<'_>) -> ArrayString<96>
     line
 }
 
-/// Writes to `out` the station's `name`, and one line for each remaining event of `merge`, with levels
-/// in `units` and times in the local time of `zone`. Returns the number of bytes written; its count of
-/// cells is 0.
+/// Writes to `out` the station's `name`, and one line for each remaining event of `merge`, with
+/// levels in `units` and times in the local time of `zone`. Returns the number of bytes written,
+/// with a count of 0 cells. Afterwards the searches of `merge` have returned all their cells.
 ///
 /// # Errors
 /// [`WriteFailed`] if a write to `out` fails: then `out` has only the first bytes of the listing.

@@ -36,10 +36,11 @@ pub fn peak_certified_is_short()
     peak_texts_are_short();
 }
 
-/// Proves that each certificate that the command `peakcheck` accepts is true, whoever made it: its
-/// minute is the reference station's minute of the highest water, its value is a million times the
-/// reference's level then (in units of which 4,147,200,000,000,000,000 are a millionth of the station's
-/// unit), and the answer shows what `highest` prints for its station and span.
+/// Proves that each certificate that the command `peakcheck` accepts is true, however it was made:
+/// its minute is the reference station's minute of the highest water, its value is a million times
+/// the reference's level then (in units of which 4,147,200,000,000,000,000 are a millionth of the
+/// station's unit), and the answer shows what `highest` prints in universal time for its station
+/// and span.
 pub fn accepted_peak_is_true()
     ensures { AcceptsOnlyTruePeaks }
 {
@@ -47,8 +48,8 @@ pub fn accepted_peak_is_true()
     peak_readings_go_by_the_grammar();
 }
 
-/// Proves that each certificate that the command `peakcheck` accepts has fewer than 10,542,000 bytes,
-/// whoever made it.
+/// Proves that each certificate that the command `peakcheck` accepts has fewer than 10,542,000
+/// bytes, however it was made.
 pub fn accepted_peak_is_short()
     ensures { AcceptsOnlyPeaksInShort }
 {

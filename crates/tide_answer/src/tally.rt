@@ -173,7 +173,11 @@ fn accepted_count(rejection: Option<Rejection>) -> u128
     }
 }
 
-/// Returns the lines that the command `trial` prints for the seed `seed` and the summed counts `sum`.
+/// Returns the lines that the command `trial` prints for the seed `seed` and the summed counts
+/// `sum`.
+///
+/// # Errors
+/// [`AllocError`] if memory runs out.
 #[tactic(auto, unfolding(crate::specs::Trials::trial_text))]
 pub fn tally_text(alloc: Global, seed: u64, sum: Tally) -> Result<Bytes, AllocError>
     requires { IsUpTo (2 ^ 100) sum }

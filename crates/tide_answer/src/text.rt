@@ -6,8 +6,8 @@ ghost use Rattle.tide_answer.specs.Answers.{text_alone, text_rejected};
 use decimal_text::Bytes;
 use std::alloc::{AllocError, Global};
 
-/// The answer to a request: its text, whether it rejects a certificate, and the number of cells of the
-/// search for its events.
+/// The answer to a request: its text, whether it rejects a certificate, and the number of cells
+/// (stretches of minutes with at most one event) of the search for its events.
 #[derive(Drop)]
 pub struct Answer {
     pub text: Bytes,
@@ -31,6 +31,9 @@ pub fn text_alone(text: Bytes) -> Answer
 }
 
 /// Returns the line `Accepted`, which begins the answer to the check of a valid certificate.
+///
+/// # Errors
+/// [`AllocError`] if memory runs out.
 pub fn accepted_line(alloc: Global) -> Result<Vec<u8>, AllocError>
     ensures { IfOk result (λ text. text.items ≡ codes "Accepted\n") }
 {

@@ -11,9 +11,12 @@ use station_cells::tracks_over;
 use station_span::{FoundStation, mark_curve, slack_curve, turn_curve};
 use std::alloc::{AllocError, Global};
 
-/// Returns the cells of each track (high and low waters, slack waters if listed, mark if any) of the
-/// station `found_station`, over the minutes of its reference station whose events the offsets can move
-/// into the span.
+/// Returns the cells (stretches of minutes with at most one event) of each track (high and low
+/// waters, slack waters if listed, mark if any) of the station `found_station`, over the minutes of
+/// its reference station whose events the offsets can move into the span.
+///
+/// # Errors
+/// [`AllocError`] if memory runs out.
 pub fn find_tracks(alloc: Global, found_station: &FoundStation) -> Result<Tracks, AllocError>
     requires { found_station.now.purpose ≡ Purpose.Events }
     ensures { IfOk result (λ tracks. tracks ≡ tracks_of found_station.now.curve.book (site_of found_station.now) found_station.now.span_request) }
