@@ -144,9 +144,10 @@ EndsAccepting s accepts status before after =
     ((answer : Answer) × accepts answer × (status ≡ Done) × (s.out after.out ≡ put answer.text (s.out before.out)))
     ⊎ RanOut status before after
 
--- The text is a certificate, and nothing refuses a request for the certificate's station, span and mark.
--- It has cells for slack waters exactly if the station's slack waters are listed, and the cells of each
--- track follow from its curve, over the minutes of the reference station that determine the events.
+-- The text is a certificate, and nothing refuses a request for the certificate's station, span and
+-- mark. It has cells for slack waters exactly if the station's slack waters are listed, and the
+-- cells of each track agree with its curve and cover the minutes of the reference station that
+-- determine the events.
 pub record IsValid (book : Book) (table : List Offsets) (text : List ℕ) : Type 0 where
   pub certificate : Certificate
   pub site : Site
@@ -155,8 +156,8 @@ pub record IsValid (book : Book) (table : List Offsets) (text : List ℕ) : Type
   pub accepted : rejection_of (followed_by (version_of certificate) book site certificate.mark)
       (widened_of site.basis certificate.begin certificate.end) certificate.tracks ≡ None
 
--- The text is a certificate of a highest water, nothing refuses a request for the certificate's station
--- and span, and the claimed highest water follows from the level's curve.
+-- The text is a certificate of a highest water, nothing refuses a request for the certificate's
+-- station and span, and the claimed highest water and its cells agree with the curve of the level.
 pub record IsValidPeak (book : Book) (table : List Offsets) (text : List ℕ) : Type 0 where
   pub certificate : PeakCertificate
   pub site : Site
@@ -164,14 +165,14 @@ pub record IsValidPeak (book : Book) (table : List Offsets) (text : List ℕ) : 
   pub unrefused : highest_site book table certificate.station (request_by_peak_certificate certificate) ≡ Ok site
   pub accepted : highest_verdict book site (request_by_peak_certificate certificate) certificate.peak ≡ Accepted
 
--- each certificate that `check` accepts is valid: nothing refuses its station, span and mark, and the
--- cells of each of its tracks follow from the curve
+-- each certificate that `check` accepts is valid: nothing refuses its station, span and mark, and
+-- the cells of each of its tracks agree with the track's curve
 abbrev pub IsValidIfAccepted : Type 0
 IsValidIfAccepted = (book : Book) (table : List Offsets) (text : List ℕ) (zone : Zone) (answer : Answer) →
     checked book table text zone ≡ Ok answer → answer.rejected ≡ false → IsValid book table text
 
--- each certificate of a highest water that `peakcheck` accepts is valid: nothing refuses its station and
--- span, and its highest water follows from the level's curve
+-- each certificate of a highest water that `peakcheck` accepts is valid: nothing refuses its
+-- station and span, and its highest water and cells agree with the curve of the level
 abbrev pub IsValidPeakIfAccepted : Type 0
 IsValidPeakIfAccepted = (book : Book) (table : List Offsets) (text : List ℕ) (answer : Answer) →
     peak_checked book table text ≡ Ok answer → answer.rejected ≡ false → IsValidPeak book table text

@@ -37,8 +37,10 @@ EndsAsPromised sheets words status before after =
     → IsFirm (ReadsClock (question_of_words sheets words)) (sources_in before) (sources_in after) ⊎ (¬ (status ≡ ReadFault))
     → EndsAs (answer_in sheets before words) status (outputs_in before) (outputs_in after)
 
--- If a run in memory keeps its promise, its output was empty and its status isn't a read fault, then the
--- status fits the answer, and if it is Done or Rejected, the output has exactly the text of the answer.
+-- If a run in memory ends as its contract says (`EndsAsPromised`), its output was empty and its
+-- status isn't a read fault, then the status is one that the answer to its command line can have
+-- (or says that memory ran out or a write failed); and if it is Done or Rejected, the output has
+-- exactly the text of the answer.
 abbrev pub MemoryHoldsTheAnswer : Type 0
 MemoryHoldsTheAnswer = (sheets : List SheetSpec) (words : List (List ℕ)) (status : Status) (before after : Held) →
     before.out.accepted ≡ [] → EndsAsPromised sheets words status before after → ¬ (status ≡ ReadFault) →

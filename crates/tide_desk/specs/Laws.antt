@@ -98,9 +98,10 @@ pub record AcceptsWith (sheets : List SheetSpec) (folder : Folder) (asks : Quest
 abbrev pub AcceptsWithListing : List SheetSpec → Folder → Question → Subject → Answer → Type 0
 AcceptsWithListing sheets folder check subject = AcceptsWith sheets folder (AsksListing check subject)
 
--- the answer of `certify` is accepted, and the events of its station, span and mark are listed, by each
--- later `check`, with any folder, that has the same constants and table, and that text as its
--- certificate
+-- If `certify` has an answer with the files of the folder `before`, then `check` accepts its text
+-- as a certificate and lists the events of its station, span and mark, with the files of any folder
+-- `after` that has this text as the certificate, the same constants and table, and the zone of
+-- `check`.
 abbrev pub AcceptsWhatCertifyAnswers : Type 0
 AcceptsWhatCertifyAnswers = (sheets : List SheetSpec) (before after : Folder) (minute later : ℤ)
     (words more : List (List ℕ)) (certify check : Question) (certificate : Answer) (zone : Zone) →
@@ -125,8 +126,8 @@ pub record IsTrueAnswer (sheets : List SheetSpec) (folder : Folder) (check : Que
   pub is_true : IsTrueCertificate book table text zone answer
   pub listing : AcceptsWithListing sheets folder check (subject_in is_true.certificate) answer
 
--- each certificate that `check` accepts, whoever made it, has exactly the events of its station, span
--- and mark
+-- each certificate that `check` accepts, however it was made, has exactly the events of its
+-- station, span and mark
 abbrev pub AcceptsOnlyTrueCertificates : Type 0
 AcceptsOnlyTrueCertificates = (sheets : List SheetSpec) (folder : Folder) (minute : ℤ) (words : List (List ℕ))
     (check : Question) (answer : Answer) →

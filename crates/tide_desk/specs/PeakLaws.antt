@@ -41,8 +41,9 @@ pub record AsksHighest (check : Question) (subject : Subject) (question : Questi
 abbrev pub AcceptsWithHighest : List SheetSpec → Folder → Question → Subject → Answer → Type 0
 AcceptsWithHighest sheets folder check subject = AcceptsWith sheets folder (AsksHighest check subject)
 
--- the answer of `peak` is accepted, and the highest water of its station and span printed, by each later
--- `peakcheck`, with any folder, that has the same constants and table, and that text as its certificate
+-- If `peak` has an answer with the files of the folder `before`, then `peakcheck` accepts its text
+-- as a certificate and prints the highest water of its station and span, with the files of any
+-- folder `after` that has this text as the certificate, and the same constants and table.
 abbrev pub AcceptsWhatPeakAnswers : Type 0
 AcceptsWhatPeakAnswers = (sheets : List SheetSpec) (before after : Folder) (minute later : ℤ)
     (words more : List (List ℕ)) (peak check : Question) (certificate : Answer) →
@@ -63,8 +64,8 @@ pub record IsTruePeakAnswer (sheets : List SheetSpec) (folder : Folder) (check :
   pub is_true : IsTruePeak book table text answer
   pub reported : AcceptsWithHighest sheets folder check (subject_of_peak is_true.certificate) answer
 
--- each certificate that `peakcheck` accepts, whoever made it, has the highest water of its station and
--- span
+-- each certificate that `peakcheck` accepts, however it was made, has the highest water of its
+-- station and span
 abbrev pub AcceptsOnlyTruePeaks : Type 0
 AcceptsOnlyTruePeaks = (sheets : List SheetSpec) (folder : Folder) (minute : ℤ) (words : List (List ℕ))
     (check : Question) (answer : Answer) →

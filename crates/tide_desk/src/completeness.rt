@@ -32,9 +32,9 @@ pub fn runs_are_complete<F: Files, O: Sink, E: Sink, K: Clock>()
     ensures { IsComplete (states F.state O.state E.state K.state) }
 {}
 
-/// Proves that the command `check` accepts each valid certificate, whoever made it, or runs out of
-/// memory, if the files, the clock and the outputs don't fail. Also proves that it accepts no
-/// certificate that isn't valid.
+/// Proves that the command `check` accepts each valid certificate (whose cells agree with the
+/// curves of its station), however it was made, or runs out of memory, if the files, the clock and
+/// the outputs don't fail. Also proves that it accepts no certificate that isn't valid.
 pub fn valid_certificates_are_accepted<F: Files, O: Sink, E: Sink, K: Clock>()
     ensures valid { AcceptsValid (states F.state O.state E.state K.state) }
     ensures no_other { IsValidIfAccepted }
@@ -42,9 +42,10 @@ pub fn valid_certificates_are_accepted<F: Files, O: Sink, E: Sink, K: Clock>()
     what_check_accepts_is_true();
 }
 
-/// Proves that the command `peakcheck` accepts each valid certificate of a highest water, whoever made
-/// it, or runs out of memory, if the files, the clock and the outputs don't fail. Also proves that it
-/// accepts no certificate that isn't valid.
+/// Proves that the command `peakcheck` accepts each valid certificate of a highest water (whose
+/// highest water and cells agree with the curve of the level), however it was made, or runs out of
+/// memory, if the files, the clock and the outputs don't fail. Also proves that it accepts no
+/// certificate that isn't valid.
 pub fn valid_peaks_are_accepted<F: Files, O: Sink, E: Sink, K: Clock>()
     ensures valid { AcceptsValidPeaks (states F.state O.state E.state K.state) }
     ensures no_other { IsValidPeakIfAccepted }
