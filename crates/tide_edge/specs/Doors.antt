@@ -183,16 +183,16 @@ unread_of [] (c ∷ more) = []
 unread_of (request ∷ requests) (c ∷ []) = left_after (length c.came) request
 unread_of (request ∷ requests) (c ∷ next ∷ more) = unread_of requests (next ∷ more)
 
--- The state of a door after `listen` on `port` with this result: the listener has this port, and a
--- failure is counted.
+-- The state of a door after `listen` on `port` with this result: the listener has this port, and it
+-- listens if the call succeeded. A failure is counted.
 abbrev pub door_after_listen : {T : Type 0} → Result T Failed → ℕ → DoorState → DoorState
 door_after_listen result port s = record s {
   listener_state = listen_requested port (is_ok result);
   faults = faults_after (is_err result) s.faults;
 }
 
--- The state of a door after `next` with this result: another connection, no more connections, or a
--- failure, which is counted.
+-- The state of a door after `next` with this result: one more connection was accepted and is open
+-- (true); there are no more connections (false); or the call failed, and the failure is counted.
 abbrev pub door_after_next : Result Bool Failed → DoorState → DoorState
 door_after_next result s = record s {
   listener_state = after_next result s.listener_state;
@@ -201,15 +201,18 @@ door_after_next result s = record s {
 }
 
 -- The state of a door after `read` with this result; `buffer` is the caller's buffer after the
--- call. The read is recorded for the latest connection, and a failure is counted.
+-- call. The bytes that were read, the first of `buffer`, are appended to the received bytes of the
+-- latest connection; a count of 0 is recorded as the end of its request. A failure is recorded and
+-- counted.
 abbrev pub door_after_read : Result ℕ Failed → List ℕ → DoorState → DoorState
 door_after_read result buffer s = record s {
   connections = change_latest (connection_after_read result buffer) s.connections;
   line_faults = faults_after (is_err result) s.line_faults;
 }
 
--- The state of a door after `write` of `piece` with this result: the write is recorded for the
--- latest connection, and a failure is counted.
+-- The state of a door after `write` of `piece` with this result: the bytes that were accepted, the
+-- first of `piece`, are appended to the reply of the latest connection. A failure is recorded and
+-- counted.
 abbrev pub door_after_write : Result ℕ Failed → List ℕ → DoorState → DoorState
 door_after_write result piece s = record s {
   connections = change_latest (connection_after_write result piece) s.connections;

@@ -125,7 +125,9 @@ after_file_call now (Read more) = record {
 abbrev pub files_now : HeldFiles → FilesNow
 files_now contents = fold after_file_call (before_calls contents) contents.history
 
--- The state of files in memory, as the trait `Files` has it.
+-- The state of files in memory after all calls until now, in the terms of the trait `Files`: the
+-- contents, the unread bytes, the calls of `open` with the bytes read after each, and the number of
+-- failures.
 abbrev pub files_state : HeldFiles → FilesState
 files_state contents = (files_now contents).state
 

@@ -62,8 +62,8 @@ pub record Shows (limit : ℕ) (firm : Bool) (opening : Opening) (file : Option 
       → (left : List ℕ) × (file ≡ Some (opening.bytes ++ left)) × (0 < opening.ends → left ≡ [])
   pub absent : IsTrue firm → is_read_out limit opening ≡ false → IsTrue (not opening.is_open || opening.read_failed) → file ≡ None
 
--- `HasPassed limit before after`: `open` was called exactly once from `before` to `after`, and more
--- than `limit` bytes were read after this call.
+-- `HasPassed limit before after`: between the states `before` and `after` of the log of opened
+-- files, `open` was called exactly once, and more than `limit` bytes were read after this call.
 abbrev pub HasPassed : ℕ → Openings → Openings → Type 0
 HasPassed limit before after =
     (opening : Opening) × (after ≡ record { earlier = openings_of before; latest = Some opening }) × (limit < length opening.bytes)
@@ -111,11 +111,13 @@ abbrev pub IsOutOfMemory : {T E : Type 0} → (E → Source) → Result T E → 
 IsOutOfMemory source (Ok value) = ⊥
 IsOutOfMemory source (Err fault) = source fault ≡ memory
 
--- `OpenedOnce source expected limit name before after result`: either memory ran out before any
--- call of `open`; or `open` was called once, for `name`, and the result meets (`Meets`) the
--- `expected` one for any contents of the file that agree with what was read (`Shows`). Here `firm`
--- is true if calls on existing files never fail: a failed call then means that there is no file. If
--- it is false, a failed call says nothing about the file. `source` gives the cause of an error.
+-- `OpenedOnce source expected limit name before after result`: between the states `before` and
+-- `after` of the log of opened files, either memory ran out before any call of `open`; or `open`
+-- was called once, for `name`, and the result meets (`Meets`) what `expected` gives for any
+-- contents of the file that agree with what was read (`Shows`: its end, or more than `limit` bytes,
+-- are enough to know the result). Here `firm` is true if calls on existing files never fail: a
+-- failed call then means that there is no file. If it is false, a failed call says nothing about
+-- the file. `source` gives the cause of an error.
 abbrev pub OpenedOnce : {T E : Type 0} → (E → Source) → (Option (List ℕ) → Result T E) → ℕ → List ℕ → Openings → Openings → Result T E
     → Type 0
 OpenedOnce source expected limit name before after result =
