@@ -48,10 +48,10 @@ abbrev pub is_left : List (List (List ℕ)) → Bool
 is_left [] = false
 is_left (request ∷ more) = true
 
--- Pending requests were accepted in their order, and each has a reply. Each reply answers its request if
--- no read or write failed; otherwise at most as many don't as the count of failures grew by, unless this
--- count is at its maximum. If the clock failed, the last accepted request, which has a byte, has an
--- empty reply.
+-- Pending requests were accepted in their order, and each has a reply. Each of `replies` answers
+-- its request if no read or write failed; otherwise at most as many don't as the count of failures
+-- grew by, unless this count is at its maximum. `left` has the last accepted request if the clock
+-- failed for it: this request isn't empty, and its reply is.
 pub record HasAnswered (served_data : ServedData) (has_failed : Bool) (before after : InMemory) : Type 0 where
   pub requests : List (List (List ℕ))
   pub replies : List (List ℕ)

@@ -165,7 +165,9 @@ pub record HasListened (served_data : ServedData) (status : Status) (before afte
       → Served served_data (is_read_fault status) (exchange before.door before.clock) (exchange after.door after.clock)
   pub wrote : WroteBoth before.err after.err (notice_at served_data.port after.door.listener_state) (end_line status)
 
--- the server refused to serve; or it has listened and served the expected data
+-- The server refused to serve, or it has listened and served the data of `expected`, the result
+-- expected for its command line and files. If the condition `firm` holds, it didn't refuse because
+-- a file that exists couldn't be read.
 abbrev pub EndsAs : Type 0 → Result ServedData RunFault → Status → ServerStates → ServerStates → Type 0
 EndsAs firm expected status before after =
     IsRefused firm expected status before after

@@ -31,7 +31,8 @@ use zone_time::Zone;
 /// and the offsets `table`, at the minute `now` since 1970-01-01T00:00Z, from -10,000,000,000 to
 /// 10,000,000,000. Bytes after the request are ignored.
 ///
-/// The program doesn't call it, since it writes replies with a fixed text without allocating.
+/// The server doesn't call this function: it writes a reply with a fixed text, such as to a
+/// malformed request, without allocating.
 ///
 /// # Errors
 /// [`AllocError`] if memory runs out.

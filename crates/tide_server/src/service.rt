@@ -25,10 +25,11 @@ use tide_fault::Status;
 /// listens, and serves one connection after the other. Returns the exit status, 0 to 8.
 ///
 /// The port at which the server listens is printed to `err`, and so is the reason why it ends, if
-/// something failed; a failed write to `err` changes nothing. A failed read or write of a connection
-/// ends only this connection. The clock is read once for each connection over which a byte was received,
-/// and its reply is for this minute. If a read of the port never returns bytes of more than one piece
-/// that a client sent, the last connection is read no further than its reply needs.
+/// something failed; a failed write to `err` changes nothing. A failed read or write of a
+/// connection ends only this connection. The clock is read once for each connection over which a
+/// byte was received, and its reply is for this minute. If each read of the port returns bytes of
+/// only one piece (a part in which a client sends its request), the last connection isn't read
+/// further than its reply needs.
 ///
 /// # Examples
 /// ```

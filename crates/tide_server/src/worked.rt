@@ -7,7 +7,9 @@ ghost use Rattle.tide_server.specs.Queries.{items_of, decoded_text};
 ghost use Rattle.tide_server.specs.Replies.{reply_of};
 ghost use Rattle.http_rows.specs.Rows.{asks};
 
-/// Proves examples of the pairs of keys and values in the query of a URL, such as `station=Pier+test`.
+/// Proves examples of decoding the query of a URL: its pairs of keys and values, where an empty
+/// pair is ignored and a key without `=` has an empty value (`items`); and a byte that isn't UTF-8,
+/// which becomes U+FFFD (`no_text`).
 pub fn worked_queries()
     ensures items { items_of (codes "station=Pier+test&&zone=%2B05:30&mark") ≡
         record { key = codes "station"; value = Some (codes "Pier test") }
