@@ -47,7 +47,8 @@ fault_of_reading slot reading.Failed = Unread
 fault_of_reading slot reading.TooLong = Faulty (TooLong slot)
 fault_of_reading slot reading.NoMemory = Faulty (Refused NoMemory)
 
--- the same bytes of a file of this kind, or the reason why there is no answer
+-- the bytes that were read of a file of this kind; or the fault in reading it, as the reason why
+-- there is no answer
 abbrev pub bytes_from : Slot → Result (List ℕ) ReadAllFault → Result (List ℕ) RunFault
 bytes_from slot (Ok bytes) = Ok bytes
 bytes_from slot (Err fault) = Err (fault_of_reading slot fault)
@@ -66,17 +67,20 @@ fault_of_loading (load.Book fault) = Faulty (Book fault)
 
 -- ---- The contents
 
--- the same harmonic constants, or the reason why there is no answer, with the first bad line
+-- the harmonic constants that were read; or the fault of the first bad line, as the reason why
+-- there is no answer
 abbrev pub book_from : Result TheBook At → Result TheBook RunFault
 book_from (Ok book) = Ok book
 book_from (Err at) = Err (Faulty (Book (form.At at.line at.why)))
 
--- the same rows of a table of offsets, or the reason why there is no answer
+-- the rows of a table of offsets that were read; or the fault of its first bad row, as the reason
+-- why there is no answer
 abbrev pub table_from : Result (List TableRow) OffsetFault → Result (List TableRow) RunFault
 table_from (Ok rows) = Ok rows
 table_from (Err fault) = Err (Faulty (Offsets fault))
 
--- the same zone, or the reason why there is no answer
+-- the zone that was read from a zone file; or the fault of this file, as the reason why there is no
+-- answer
 abbrev pub zone_from : Result Zone ZoneFault → Result Zone RunFault
 zone_from (Ok zone) = Ok zone
 zone_from (Err zones.BadZone) = Err (Faulty BadZone)

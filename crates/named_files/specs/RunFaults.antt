@@ -20,14 +20,14 @@ use Rattle.decimal_text.specs.Expected.{Source, memory, outside, given}
 use Rattle.named_files.specs.declared.run_fault.RunFault.{RunFault}
 use Rattle.named_files.specs.declared.run_fault.RunFault.TheVariants.{Unread, Faulty, Refused}
 
--- the same result of a step that reads neither a file nor the clock, with an error as the reason why
+-- the value of a step that reads neither a file nor the clock; or its fault, as the reason why
 -- there is no answer
 abbrev pub faulty : {A : Type 0} → Result A Fault → Result A RunFault
 faulty (Ok value) = Ok value
 faulty (Err fault) = Err (Faulty fault)
 
--- the same result of a step, with a refusal as the reason why there is no answer; `rows`, the table of
--- offsets, is kept for the line that reports it
+-- the value of a step; or its refusal, as the reason why there is no answer, with `rows`, the table
+-- of offsets, for the line that reports it
 abbrev pub refused_over : {A : Type 0} → List Offsets → Result A Refusal → Result A RunFault
 refused_over rows (Ok value) = Ok value
 refused_over rows (Err refusal) = Err (Refused refusal rows)
