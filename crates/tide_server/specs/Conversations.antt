@@ -72,8 +72,8 @@ abbrev pub IsAnswered : ServedData → Connection → Option ℤ → Type 0
 IsAnswered served_data c None = IsUnanswered c
 IsAnswered served_data c (Some minute) = IsSent c.write_failed (Answers served_data minute c.came) c.sent
 
--- the connection was read as far as needed and answered at the minute that the clock returned, None if
--- the clock wasn't read
+-- the connection was read until its reply was determined, its end was found or a read failed, and
+-- it was answered at the minute that the clock returned; None if the clock wasn't read
 pub record IsServed (served_data : ServedData) (c : Connection) (minute : Option ℤ) : Type 0 where
   pub read : IsReadEnough c
   pub asked : is_some minute ≡ reads_clock c

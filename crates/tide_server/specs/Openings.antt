@@ -61,7 +61,7 @@ asks_another (word ∷ words) = not (asks_to_serve (word ∷ words))
 abbrev pub service_in : List (List ℕ) → Result Question AskFault
 service_in words = if asks_another words then Err UnknownCommand else question_of (pairs_of words)
 
--- the same request, or its fault as a fault of the server
+-- the request that was read; or the reason why there is none, as a fault of the server
 abbrev pub service_from : Result Question AskFault → Result Question Fault
 service_from (Ok question) = Ok question
 service_from (Err fault) = Err (Ask fault)
