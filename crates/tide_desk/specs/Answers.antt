@@ -52,12 +52,12 @@ use Rattle.tide_edge.specs.Whole.{Allowance, no_file}
 
 -- ---- The arguments
 
--- the same result of reading arguments, with an error as a fault of the run
+-- what was read from the arguments; or the error of reading them, as a fault of the run
 abbrev pub ask_from : {A : Type 0} → Result A AskFault → Result A Fault
 ask_from (Ok value) = Ok value
 ask_from (Err fault) = Err (Ask fault)
 
--- the same result of answering a request, with a refusal as a fault of the run
+-- the value of a step of an answer; or its refusal, as a fault of the run
 abbrev pub refused_from : {A : Type 0} → Result A Refusal → Result A Fault
 refused_from (Ok value) = Ok value
 refused_from (Err refusal) = Err (Refused refusal)

@@ -68,8 +68,9 @@ abbrev pub status_with : Result Answer RunFault → Status
 status_with (Ok answer) = if answer.rejected then Rejected else Done
 status_with (Err none) = status_of none
 
--- the exit status is the expected one, and the output has the whole text of the answer; or there is no
--- answer, nothing was written to the output, and the line that was written to `err` gives the reason
+-- the exit status is the one for `expected`, and the whole text of this answer was written to the
+-- output; or `expected` is a reason why there is no answer, nothing was written to the output, and
+-- the line that was written to `err` gives this reason
 pub record EndsWhole {F O E K : Type 0} (s : States F O E K) (expected : Result Answer RunFault) (status : Status)
     (before after : Objects F O E K) : Type 0 where
   pub ends : status ≡ status_with expected

@@ -28,8 +28,9 @@ outputs_in held = outputs (sink_state held.out) (sink_state held.err)
 abbrev pub answer_in : List SheetSpec → Held → List (List ℕ) → Result Answer RunFault
 answer_in sheets held words = answer_of sheets (folder_of held.files.files) held.clock.minute words
 
--- the promise of a run, for files and a clock in memory: if they can be observed, and either haven't
--- failed or the status isn't a read fault, the run ends with the answer for their contents
+-- what the contract of a run says of files and a clock in memory: if contracts know their contents,
+-- and either the status isn't a read fault or no file can fail and the clock, if it is needed,
+-- hasn't failed, the run ends with the answer for these contents
 abbrev pub EndsAsPromised : List SheetSpec → List (List ℕ) → Status → Held → Held → Type 0
 EndsAsPromised sheets words status before after =
     IsTrue (files_state before.files).file_contents.is_observable
