@@ -147,7 +147,8 @@ certified book table name span_request = do
   site ← site_in Events book table name span_request
   Ok (text_of_events book site span_request (certificate_text (certificate_by book site name span_request)))
 
--- the same certificate, or the refusal for the fault of a text that isn't a certificate
+-- the certificate that was read from a text; or the refusal for the fault of a text that isn't a
+-- certificate
 abbrev pub certificate_from : Result Certificate CertFault → Result Certificate Refusal
 certificate_from (Ok cert) = Ok cert
 certificate_from (Err fault) = Err (refusal_of_cert fault)
@@ -252,7 +253,8 @@ abbrev pub refusal_of_peak : PeakFault → Refusal
 refusal_of_peak peak.NoMemory = NoMemory
 refusal_of_peak (peak.NotACertificate line) = NotACertificate line
 
--- the same certificate of a highest water, or the refusal for the fault of a text that isn't one
+-- the certificate of a highest water that was read from a text; or the refusal for the fault of a
+-- text that isn't one
 abbrev pub peak_from : Result PeakCertificate PeakFault → Result PeakCertificate Refusal
 peak_from (Ok cert) = Ok cert
 peak_from (Err fault) = Err (refusal_of_peak fault)

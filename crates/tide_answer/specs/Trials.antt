@@ -118,7 +118,8 @@ tally_on book sum (station ∷ stations) = do
 abbrev pub station_count : ℕ
 station_count = 40
 
--- the same harmonic constants, or the refusal for a made-up file that can't be read as a harmonics file
+-- the harmonic constants that were read from a made-up file; or the refusal BadSample with the
+-- first bad line and its fault
 abbrev pub book_from : Result Book At → Result Book Refusal
 book_from (Ok book) = Ok book
 book_from (Err fault) = Err (BadSample fault.line fault.why)
