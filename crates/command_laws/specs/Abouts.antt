@@ -69,8 +69,9 @@ pub record IsBoundedLow (book : Book) (station : Station) (bound m : ℤ) : Type
   pub falls_later : FallsAtMost book station bound (m +ℤ pos 1)
   pub rises : RisesAtMost book station bound m
 
--- for a high or low water between minutes `m` and `m + 1`, the level changes by at most `bound` a minute
--- as far as `IsBoundedHigh` or `IsBoundedLow` says; for any other kind of event nothing is said
+-- For a high water between minutes `m` and `m + 1`, the level rises or falls by at most `bound`
+-- from `m` to `m + 1`, and rises by at most `bound` from `m + 1` to `m + 2`; for a low water it
+-- falls by at most `bound` then. For any other kind of event nothing is said.
 abbrev pub IsBoundedTurn : Book → Station → ℤ → Kind → ℤ → Type 0
 IsBoundedTurn book station bound High m = IsBoundedHigh book station bound m
 IsBoundedTurn book station bound Low m = IsBoundedLow book station bound m
