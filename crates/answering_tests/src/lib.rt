@@ -1,4 +1,5 @@
-//! Tests of answers to requests: answers, refusals and certificates.
+//! Tests of answers to requests: answers, refusals and certificates, and files of constants that are
+//! loaded in pieces.
 //!
 //! They use only the public items of the crates below. They are in a separate crate because a crate with
 //! tests is proved twice: with and without them.
@@ -10,3 +11,5 @@ mod answering;
 mod asserts;
 #[cfg(test)]
 mod examples;
+#[cfg(test)]
+mod loading;

@@ -3,11 +3,9 @@
 use arrayvec::ArrayString;
 use decimal_text::{DecimalFault, Text, Words, digits, read, write};
 use harmonics_text::{BookFault, Why, read_book};
-use named_files::{LoadFault, load_book};
 use question::{AskFault, Key, pairs_of_words, read_question};
 use station_table::{FindFault, OffsetTable, find, read_offsets};
 use std::test::Fail;
-use tide_edge::MemoryFiles;
 use zone_time::{ZoneFault, read_moment, read_zone};
 
 #[test]
@@ -38,15 +36,6 @@ fn books(rt: HostRuntime) -> Result<(), Fail> {
     let why = Why::BadNumber;
     let fault = read_book(rt.alloc(), b"1\nS2 30,0\n").err();
     assert_eq!(rt; fault, Some(BookFault::At { line: 2, why }));
-    Ok(())
-}
-
-#[test]
-fn loaded_books(rt: HostRuntime) -> Result<(), Fail> {
-    let mut files = MemoryFiles::new(Vec::new(rt.alloc()), Vec::new(rt.alloc()));
-    let name = Text::from_str(rt.alloc(), "harmonics")?;
-    let loaded = load_book(rt.alloc(), &mut files, &name, 1_000);
-    assert_eq!(rt; loaded.err(), Some(LoadFault::Failed));
     Ok(())
 }
 

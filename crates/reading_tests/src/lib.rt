@@ -22,8 +22,6 @@ mod faults;
 #[cfg(test)]
 mod harmonics;
 #[cfg(test)]
-mod loading;
-#[cfg(test)]
 mod offsets;
 #[cfg(test)]
 mod peak_texts;

@@ -3,12 +3,12 @@
 ghost use Rattle.std.specs.Prelude.{◌≤◌};
 ghost use Rattle.decimal_text.specs.declared.limits.TheConstants.{MOST_BYTES};
 
-use crate::asserts::assert_holds;
-use crate::edge::add_file;
-use decimal_text::{MOST_BYTES, Text};
+use decimal_text::{Bytes, MOST_BYTES, Text};
 use harmonics_text::{BookFault, Why};
-use named_files::{LoadFault, load_book};
+use named_files::LoadFault;
 use std::alloc::{AllocError, Global};
+use std::test::Fail;
+use tide_answer::load_book;
 use tide_edge::{MemoryFiles, NamedFile};
 
 const PIER: &[u8] = b"1\nS2 30\n1999\n3\nS2\n0 0 0\n*END*\n3\nS2\n1 1 1\n*END*\n\
@@ -27,6 +27,18 @@ fn long_file(alloc: Global) -> Result<Vec<u8>, AllocError> {
     long.push(b'\n')?;
     long.extend_from_slice(PIER)?;
     Ok(long)
+}
+
+/// Appends the file `name` to `files`.
+fn add_file(
+    alloc: Global,
+    files: &mut Vec<NamedFile>,
+    name: &str,
+    bytes: &[u8],
+) -> Result<(), AllocError> {
+    let name = Text::from_str(alloc, name)?;
+    let bytes = Bytes::from_vec(bytes.to_vec(alloc)?);
+    Ok(files.push(NamedFile { name, bytes })?)
 }
 
 /// Appends the file `pier`, a bad one, and one of three pieces.
@@ -94,6 +106,15 @@ fn is_loaded(
 fn a_book_is_loaded_in_pieces(rt: HostRuntime) {
     for (place, (name, limit, failing, expected)) in LOADINGS.iter().enumerate() {
         let is_loaded = is_loaded(rt.alloc(), name, *limit, *failing, expected);
-        assert_holds(&rt, is_loaded, place);
+        assert!(rt; is_loaded, "row {place}");
     }
+}
+
+#[test]
+fn a_missing_file_fails(rt: HostRuntime) -> Result<(), Fail> {
+    let mut files = MemoryFiles::new(Vec::new(rt.alloc()), Vec::new(rt.alloc()));
+    let name = Text::from_str(rt.alloc(), "harmonics")?;
+    let loaded = load_book(rt.alloc(), &mut files, &name, 1_000);
+    assert_eq!(rt; loaded.err(), Some(LoadFault::Failed));
+    Ok(())
 }
