@@ -63,9 +63,8 @@ impl<C: Curve> Coming<C> {
 
     /// Returns the next event without removing it, or `None` if no event remains; the search has
     /// then returned all its cells. If the next event isn't pending (found but not yet returned),
-    /// the search advances to it, and it is pending afterwards. The cells returned since
-    /// [`Coming::new`] and the remaining ones are together the cells that the search had yet to
-    /// return then.
+    /// the search advances to it, and it is pending afterwards. The number of the cells returned
+    /// since [`Coming::new`] and the cells that remain together (`all`) doesn't change.
     pub fn peek(&mut self) -> Option<Event>
         ensures first { result ≡ first_of self.old.remaining }
         ensures found { result ≡ (looked self.old.pending).found }

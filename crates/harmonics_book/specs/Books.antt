@@ -30,9 +30,9 @@ pub record IsConstituent (c : Constituent) : Type 0 where
   pub speed : IsWithin (pos 0) (pos 3600000000) c.speed
 
 -- `IsStation count s`: true of a valid station in a book of `count` constituents. Its name has 1 to
--- 200 characters (`IsName`), its meridian is from -959 to 959 minutes, its datum is from -10,000 to
--- 10,000 (in millionths of its unit), and it has `count` amplitudes in the same range and unit, and
--- `count` epochs from -720 to 720 degrees (in ten-millionths of a degree).
+-- 200 characters (`IsName`); its meridian is from -959 to 959 minutes; its datum and `count`
+-- amplitudes are from -10,000 to 10,000 of its unit, as whole millionths; and its `count` epochs are
+-- from -720 to 720 degrees, as whole ten-millionths of a degree.
 pub record IsStation (count : ℕ) (s : Station) : Type 0 where
   pub name : IsName 200 s.name
   pub meridian : IsWithin (negsuc 958) (pos 959) s.meridian
@@ -44,8 +44,8 @@ pub record IsStation (count : ℕ) (s : Station) : Type 0 where
 
 -- true of a valid book: 1 to 500 constituents (names of 1 to 32 characters, speeds from 0 to 360
 -- degrees an hour), a first year from 2 to 8800, 1 to 500 years, an equilibrium argument (from -720
--- to 720 degrees, in ten-millionths) and a node factor (from 0 to 10, in millionths) for each
--- constituent and year, and at most 20,000 valid stations (`IsStation`)
+-- to 720 degrees, as whole ten-millionths) and a node factor (from 0 to 10, as whole millionths) for
+-- each constituent and year, and at most 20,000 valid stations (`IsStation`)
 pub record IsBook (b : Book) : Type 0 where
   pub some_constituents : 1 ≤ length b.constituents
   pub few_constituents : length b.constituents ≤ 500

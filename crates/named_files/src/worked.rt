@@ -40,9 +40,9 @@ pub fn worked_files()
         (codes "pier.txt") ≡ Err RunFault.Unread }
 {}
 
-/// Proves examples of reasons why there is no answer: row 2 of a table (counted from 0) names a
-/// reference station, Nowhere, that the harmonics file doesn't have, which has its own line and the
-/// exit status for a refused request; and a file can't be read, which has another status.
+/// Proves the printed line and the exit status of two reasons why there is no answer: row 2 of a table
+/// (counted from 0) names a reference station, Nowhere, that the harmonics file doesn't have
+/// (`reference`, `refused`); and a file can't be read (`unread`).
 #[tactic(auto, unfolding(tide_fault::specs::Faults::line_of, tide_fault::specs::Faults::refusal_line))]
 pub fn worked_faults()
     ensures reference { line_of (RunFault.Refused (Refusal.NoReference 2) dock_rows) ≡ codes "refused: no reference Nowhere\n" }

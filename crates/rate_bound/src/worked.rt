@@ -19,8 +19,9 @@ ghost use Rattle.rate_bound.specs.CurveSpecs.{predicted_turn, predicted_mark};
 /// amplitude of one foot. The last two arguments are the first minute and the number of minutes: 8
 /// from 00:00 UTC on 10 January 2000 (15791040), or 4 from 23:00 UTC on 31 December 1999
 /// (15778020), which reach the blend of two years' constants at the new year. In a blend
-/// `Version.First` has no bound (`None`), and `Version.Second` has none in `steepest_across`: for
-/// 333.333333 feet, the steepest tide within the limits, the bound exceeds 4 * 10^34. Slopes are in
+/// `Version.First` has no bound (`None`). `steepest_plain` and `steepest_across` are for 333.333333
+/// feet, the steepest tide within the limits; in the blend its bound exceeds 4 * 10^34, so that
+/// `Version.Second` has none. Slopes are in
 /// feet a minute, multiplied by 10^15 * 34,377,467,708 * 4,147,200,000 (34,377,467,708 units of
 /// angle are a radian, and 4,147,200,000 is the total weight of a blend). Levels are in feet,
 /// multiplied by 10^15 * 4,147,200,000, and their bounds have the factor in millionths (1000000 or

@@ -15,8 +15,8 @@ use question::ValidQuestion;
 use station_span::{SpanRequest, StationRequest};
 use tide_fault::Refusal;
 
-/// Returns [`Refusal::NoStation`], the refusal of a question without the station, the span or the seed
-/// that its command needs, and of a command that has no answer in this crate.
+/// Returns [`Refusal::NoStation`], by which this crate also refuses a question that lacks the span or
+/// the seed that its command needs, or whose command another crate answers.
 pub fn refusal_of_incomplete() -> Refusal
     ensures { result ≡ refusal_of_incomplete }
 {

@@ -162,8 +162,8 @@ abbrev pub Fails : {Y : Type 0} → LineFault → Result Y Why → Type 0
 Fails NoMemory rule = Unit {0}
 Fails (Bad why) rule = rule ≡ Err why
 
--- `Follows view result rule`: true if the function's value, as `view` shows it, or its error is
--- `rule`, the result by definition, or if it is the error NoMemory (memory ran out)
+-- `Follows view result rule`: true if `result`, with `view` applied to its value, is `rule`, the result
+-- by definition, or if `result` is the error NoMemory (memory ran out)
 abbrev pub Follows : {X Y : Type 0} → (X → Y) → Result X LineFault → Result Y Why → Type 0
 Follows view (Ok x) rule = rule ≡ Ok (view x)
 Follows view (Err e) rule = Fails e rule
