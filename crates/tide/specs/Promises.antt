@@ -101,8 +101,7 @@ pub record IsFresh {F D O E K : Type 0} (s : WorldStates F D O E K) (w : World F
   pub line_faults : (s.door w.door).line_faults ≡ 0
   pub out : s.out w.out ≡ record { accepted = []; faults = 0 }
   pub err : s.err w.err ≡ record { accepted = []; faults = 0 }
-  pub returned_minutes : (s.clock w.clock).returned_minutes ≡ []
-  pub clock_read : (s.clock w.clock).readings ≡ 0
+  pub clock_read : (s.clock w.clock).readings ≡ []
   pub clock_faults : (s.clock w.clock).faults ≡ 0
 
 -- There are files, a port, two outputs and a clock, unused before the run and in the states `after` it,

@@ -1,37 +1,34 @@
 -- The answer over files, from its steps.
-use Rattle.std.proofs.Common.{◌≡◌, ◌∙◌, ap, ℕ, ℤ, Bool, true, false, if◌then◌else◌, List, [], ◌∷◌, ◌++◌, map, append-nil, Option, Some, None, Result, Ok, Err, refl, sym, subst, le_refl}
+use Rattle.std.proofs.Common.{◌≡◌, ◌∙◌, ap, ℕ, ℤ, Bool, true, false, if◌then◌else◌, List, [], ◌∷◌, ◌++◌, map, append-nil, Option, Some, None, Result, Ok, Err, refl, sym, subst}
 use Rattle.std.specs.Bool.{IsTrue}
-use Rattle.std.specs.Prelude.{IsOk, IsSome, IfSome, IfErr, count_by, pos, length}
-use Rattle.std.proofs.lemmas.Option.{slice_get_past}
+use Rattle.std.specs.Prelude.{IsOk, IsSome, IfErr, count_by, pos}
 use Rattle.std.specs.Option.{IsSomeAnd, option_map_or}
 use Rattle.std.specs.Result.{IsErrAnd}
-use Rattle.decimal_text.specs.Expected.{◌>>=◌, Excused, Excuses, EqualsUnlessNoMemory, Meets}
+use Rattle.decimal_text.specs.Expected.{◌>>=◌, Excused, EqualsUnlessNoMemory, Meets}
 use Rattle.question.specs.declared.question.Question.{Question}
 use Rattle.report_sheets.specs.Sheets.{SheetSpec}
 use Rattle.tide_answer.specs.declared.text.Answer.{Answer}
 use Rattle.tide_answer.specs.Answers.{answered_without_files}
-use Rattle.tide_edge.specs.Clocks.{ClockState, clock_after, next_minute}
-use Rattle.tide_edge.specs.Faults.{Rose, counted}
+use Rattle.tide_edge.specs.Clocks.{ClockState, clock_after}
 use Rattle.tide_edge.specs.FaultSchedule.{answer}
-use Rattle.tide_edge.specs.declared.failed.Failed.{Failed}
 use Rattle.tide_edge.specs.FileStates.{FilesState, Opening, Openings, openings_of}
 use Rattle.tide_edge.specs.Whole.{Allowance, ReadWithin, no_file}
 use Rattle.tide_edge.proofs.ReadingLemmas.{read_none}
 use Rattle.tide_fault.specs.declared.fault.Fault.{Fault}
 use Rattle.tide_fault.specs.Faults.{is_out_of_memory as fault_is_out_of_memory}
 use Rattle.named_files.specs.declared.run_fault.RunFault.{RunFault}
-use Rattle.named_files.specs.declared.run_fault.RunFault.TheVariants.{Unread, Faulty, Refused}
+use Rattle.named_files.specs.declared.run_fault.RunFault.TheVariants.{Faulty}
 use Rattle.named_files.specs.declared.materials.Materials.{Materials}
-use Rattle.named_files.specs.RunFaults.{file_of, is_unread, reading_failed, refused_over, source_of, faulty, is_out_of_memory}
+use Rattle.named_files.specs.RunFaults.{file_of, refused_over, source_of, faulty, is_out_of_memory}
 use Rattle.named_files.specs.Opened.{AreOpened, AreShown, AreShownFor, IsResultOf, failing_file, names_to}
 use Rattle.tide_fault.specs.declared.slot.Slot.{Slot}
 use Rattle.named_files.specs.Readings.{Folders, files_allowed, files_in}
-use Rattle.named_files.proofs.ReadingLemmas.{failed_at, meets_at, meets_inside, faulty_excuses}
+use Rattle.named_files.proofs.ReadingLemmas.{meets_at, meets_inside, faulty_excuses}
 use Rattle.tide_desk.specs.Workings.Settled.{IsSettled}
-use Rattle.tide_desk.proofs.SettledLemmas.{never, no_value, unread_unsettled}
+use Rattle.tide_desk.proofs.SettledLemmas.{unread_unsettled}
 use Rattle.tide_desk.specs.Answers.{ReadsClock, HasFiles, NamesFile, allowed_by, answered_over_book, question_of_words, reads_clock, given_with, is_report, refused_from}
 use Rattle.tide_desk.specs.Outcomes.{Sources, WentOn, sources}
-use Rattle.tide_desk.specs.Shown.{IsReadLast, answer_shown, given_between, minute_read, names_by, names_wanted, shown_by, shown_over}
+use Rattle.tide_desk.specs.Shown.{IsReadLast, answer_shown, minute_read, names_by, names_wanted, shown_by, shown_over}
 
 -- ---- The bytes that were read, and the readings of the clock
 
@@ -81,13 +78,6 @@ went_asking asks failed minute allowed before after clock later asked read time 
   failed = asked;
   last = λ is. let untrue : false ≡ true = is in cc;
 }
-
--- a clock that was read and failed has one more fault
-pub clock_rose : (asks : Bool) (failed : Failed) (clock later : ClockState) → IsTrue asks
-    → later ≡ (if asks then clock_after (Err failed) clock else clock)
-    → Rose clock.faults later.faults
-clock_rose true failed clock later asked time = rw time (le_refl (counted clock.faults))
-clock_rose false failed clock later asked time = let untrue : false ≡ true = asked in cc
 
 -- a command line needs what its request needs
 pub went_by_words : (failed : Bool) (asked : Result Question Fault) (question : Question) (name : List ℕ) (before after : Sources)
@@ -215,24 +205,10 @@ names_file asked question name is named =
 
 -- ---- The clock, which is read after the files
 
--- a clock that wasn't read has returned no minute
-none_given : (clock : ClockState) → given_between clock clock ≡ None
-none_given clock = slice_get_past clock.returned_minutes (length clock.returned_minutes) (le_refl (length clock.returned_minutes))
-
-no_minute : (clock : ClockState) (P : ℤ → Type 0) → IfSome (given_between clock clock) P
-no_minute clock P = rw (none_given clock) tt
-
 settled_at : {A : Type 0} (result : Result A RunFault) (none : RunFault) → IsErrAnd result (λ e. e ≡ none) → IfErr result IsSettled
     → IsSettled none
 settled_at (Ok value) none is settled = absurd is
 settled_at (Err e) none is settled = subst IsSettled is settled
-
--- a file that can be read hasn't failed
-unread_failed : {A : Type 0} (expected : Result A RunFault) (none : RunFault) → is_unread none ≡ true
-    → Excuses (source_of none) (IsTrue true) expected none → IsOk expected → ⊥
-unread_failed expected Unread is excuses ok = no_value expected Unread (excuses refl) ok
-unread_failed expected (Faulty fault) is excuses ok = never is
-unread_failed expected (Refused refusal rows) is excuses ok = never is
 
 -- the files couldn't be read
 pub last_unread : (question : Question) (name : List ℕ) (asks unread : Type 0) (before after : FilesState) (clock : ClockState)
@@ -247,41 +223,30 @@ last_unread question name asks unread before after clock none result same is rea
   once = λ folders shows ok asked settled.
       absurd (unread_unsettled (IsTrue false) (files_in folders question name) none (read.answer false folders shows) ok
       (settled_at result none is settled));
-  failed = λ folders shows ok failed.
-      absurd (unread_failed (files_in folders question name) none (sym (failed_at result none is) ∙ failed)
-      (read.answer true folders shows) ok);
-  minute = λ t. no_minute clock _;
 }
 
 -- the files were read
 pub last_read : (question : Question) (name : List ℕ) (asks unread : Type 0) (before after : Sources) (read : Materials)
     (result : Result Answer RunFault) → AreOpened question name before.files.open_log after.files.open_log (Ok read)
     → (asks → IfErr result IsSettled → (minute : ℤ) × (after.clock ≡ clock_after (Ok minute) before.clock))
-    → (reading_failed result ≡ true → Rose before.clock.faults after.clock.faults)
-    → (IsTrue before.clock.is_observable
-    → IfSome (given_between before.clock after.clock) (λ minute. minute ≡ next_minute before.clock))
     → IsReadLast asks unread (AreShown question) (λ folders. IsOk (files_in folders question name)) before after result
-last_read question name asks unread before after read result opened once failed minute = record {
+last_read question name asks unread before after read result opened once = record {
   open_log = opened.open_log;
   all = opened.all;
   last = λ folders shows no. absurd (no (rw (opened.answer false folders shows) refl));
   once = λ folders shows ok asked settled. once asked settled;
-  failed = λ folders shows ok is. failed is;
-  minute = minute;
 }
 
 -- no file was named
 pub last_unopened : (asks unread : Type 0) (shows : Bool → List Opening → Folders → Type 0) (has : Folders → Type 0)
-    (files : FilesState) (clock : ClockState) (result : Result Answer RunFault) → unread → reading_failed result ≡ false
+    (files : FilesState) (clock : ClockState) (result : Result Answer RunFault) → unread
     → ((folders : Folders) → has folders → asks → IfErr result IsSettled → ⊥)
     → IsReadLast asks unread shows has (sources files clock) (sources files clock) result
-last_unopened asks unread shows has files clock result same unfailed none = record {
+last_unopened asks unread shows has files clock result same none = record {
   open_log = [];
   all = sym (append-nil (openings_of files.open_log));
   last = λ folders shows no. same;
   once = λ folders shows has asked settled. absurd (none folders has asked settled);
-  failed = λ folders shows has failed. never (sym unfailed ∙ failed);
-  minute = λ t. no_minute clock _;
 }
 
 -- a command line reads the clock as its request does
@@ -296,7 +261,4 @@ last_named asked question name unread before after result is named read = record
   last = λ folders shows no. read.last folders (rw is at shows) (λ ok. no (has_files folders asked question name is named ok));
   once = λ folders shows has asks settled.
       read.once folders (rw is at shows) (files_named folders asked question name is named has) (rw is at asks) settled;
-  failed = λ folders shows has failed.
-      read.failed folders (rw is at shows) (files_named folders asked question name is named has) failed;
-  minute = read.minute;
 }

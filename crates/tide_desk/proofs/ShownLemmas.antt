@@ -1,5 +1,5 @@
 -- The end of a run by what it opened.
-use Rattle.std.proofs.Common.{◌≡◌, ◌∙◌, ap, ℕ, true, false, List, [], ◌++◌, map, append-nil, append_assoc, Option, Some, None, Result, Ok, Err, inl, refl, sym}
+use Rattle.std.proofs.Common.{◌≡◌, ◌∙◌, ap, ℕ, ℤ, true, false, List, [], ◌∷◌, ◌++◌, map, append-nil, append_assoc, Option, Some, None, Result, Ok, Err, inl, refl, sym}
 use Rattle.std.specs.Bool.{IsTrue}
 use Rattle.decimal_text.specs.Expected.{Excused, Meets}
 use Rattle.named_files.specs.declared.run_fault.RunFault.{RunFault}
@@ -17,7 +17,7 @@ use Rattle.tide_fault.specs.declared.slot.Slot.{Slot}
 use Rattle.tide_fault.specs.declared.status.Status.{Status}
 use Rattle.tide_desk.specs.Answers.{question_of_words}
 use Rattle.tide_desk.specs.Outcomes.{EndsAs, Outputs, Sources}
-use Rattle.tide_desk.specs.Shown.{EndsAsShown, answer_by, answer_shown, folders_by, given_between, names_by, names_wanted}
+use Rattle.tide_desk.specs.Shown.{Agrees, EndsAsShown, answer_by, answer_shown, folders_by, first_minute, given_between, names_by, names_wanted}
 use Rattle.tide_desk.proofs.OutcomeLemmas.{ends_reported, own_excused}
 
 -- ---- The names up to a fault are the first of all
@@ -34,6 +34,11 @@ wider (Ok question) why = wider_by question question.file why
 wider (Err fault) why = ([], refl)
 
 -- ---- The end
+
+-- the minute that the clock returned agrees with its readings
+pub first_agrees : (readings : List (Option ℤ)) → Agrees (first_minute readings) readings
+first_agrees [] = tt
+first_agrees (reading ∷ more) = refl
 
 -- the answer by the openings is an expected one
 by_openings : (sheets : List SheetSpec) (words : List (List ℕ)) (before after : Sources) (result : Result Answer RunFault)

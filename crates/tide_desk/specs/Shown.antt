@@ -1,14 +1,13 @@
 -- The answer to a command line, from the openings of its files and the minute that the clock returned
 -- (this project).
-use Rattle.std.specs.Prelude.{◌≡◌, ℕ, ℤ, pos, Bool, true, false, IsTrue, IfSome, IfErr, if◌then◌else◌, List, [], ◌++◌, length, map, Option, Some, None, Result, Ok, Err, slice_get}
+use Rattle.std.specs.Prelude.{◌≡◌, ℕ, ℤ, pos, Bool, false, IfErr, if◌then◌else◌, List, [], ◌∷◌, ◌++◌, length, drop, map, Option, Some, None, Result, Ok, Err}
 use Rattle.decimal_text.specs.Expected.{◌>>=◌}
 use Rattle.question.specs.declared.command.Command.{Command}
 use Rattle.question.specs.declared.question.Question.{Question}
 use Rattle.report_sheets.specs.Sheets.{SheetSpec}
 use Rattle.tide_answer.specs.declared.text.Answer.{Answer}
 use Rattle.tide_answer.specs.Answers.{answered_without_files}
-use Rattle.tide_edge.specs.Clocks.{ClockState, clock_after, next_minute}
-use Rattle.tide_edge.specs.Faults.{Rose}
+use Rattle.tide_edge.specs.Clocks.{ClockState, clock_after}
 use Rattle.tide_edge.specs.FileStates.{Opening, openings_of}
 use Rattle.tide_fault.specs.declared.fault.Fault.{Fault}
 use Rattle.tide_fault.specs.declared.slot.Slot.{Slot}
@@ -16,7 +15,7 @@ use Rattle.tide_fault.specs.declared.status.Status.{Status}
 use Rattle.tide_fault.specs.declared.status.Status.TheVariants.{NoMemory}
 use Rattle.named_files.specs.declared.run_fault.RunFault.{RunFault}
 use Rattle.named_files.specs.declared.run_fault.RunFault.TheVariants.{Unread}
-use Rattle.named_files.specs.RunFaults.{faulty, reading_failed, refused_over}
+use Rattle.named_files.specs.RunFaults.{faulty, refused_over}
 use Rattle.named_files.specs.Opened.{failing_file, folders_shown, names_to}
 use Rattle.named_files.specs.Readings.{Folders, files_in}
 use Rattle.tide_desk.specs.Answers.{answered_over_book, question_of_words, reads_clock, given_with, is_report, refused_from}
@@ -77,9 +76,24 @@ abbrev pub folders_by : Result Question Fault → List Opening → Folders
 folders_by (Ok question) open_log = folders_shown question open_log
 folders_by (Err fault) open_log = λ slot name. None
 
--- the first minute that a clock returned between two of its states, or None if it returned none
+-- the readings of a clock between two of its states
+abbrev pub readings_between : ClockState → ClockState → List (Option ℤ)
+readings_between before after = drop (length before.readings) after.readings
+
+-- the minute that the first of these readings returned; None if it failed or there is none
+abbrev pub first_minute : List (Option ℤ) → Option ℤ
+first_minute [] = None
+first_minute (reading ∷ more) = reading
+
+-- the minute that a clock returned between two of its states, or None if it returned none
 abbrev pub given_between : ClockState → ClockState → Option ℤ
-given_between before after = slice_get after.returned_minutes (length before.returned_minutes)
+given_between before after = first_minute (readings_between before after)
+
+-- `given`, a minute or None, agrees with these readings: it is what the first of them returned, None if it
+-- failed; nothing is said if there is none
+abbrev pub Agrees : Option ℤ → List (Option ℤ) → Type 0
+Agrees given [] = Unit {0}
+Agrees given (reading ∷ more) = reading ≡ given
 
 -- the answer to the command line `words`, from `open_log`, the record of opened files, and from the
 -- minute that the clock returned between two of its states
@@ -106,8 +120,6 @@ pub record EndsAsShown (sheets : List SheetSpec) (words : List (List ℕ)) (befo
 -- - `last`: the clock is unchanged (`unread`) if not all files can be read.
 -- - `once`: the clock was read once if all files can be read, the request needs the clock (`asks`), and
 --   the result is neither a fault of reading nor of memory.
--- - `failed`: the clock has failed if all files can be read and the result is a fault of reading.
--- - `minute`: if the clock can be observed and returned a minute, it is the clock's next one.
 pub record IsReadLast {T : Type 0} (asks unread : Type 0) (shows : Bool → List Opening → Folders → Type 0) (has_files : Folders → Type 0)
     (before after : Sources) (result : Result T RunFault) : Type 0 where
   pub open_log : List Opening
@@ -115,7 +127,3 @@ pub record IsReadLast {T : Type 0} (asks unread : Type 0) (shows : Bool → List
   pub last : (folders : Folders) → shows false open_log folders → ¬ (has_files folders) → unread
   pub once : (folders : Folders) → shows false open_log folders → has_files folders → asks → IfErr result IsSettled
       → (minute : ℤ) × (after.clock ≡ clock_after (Ok minute) before.clock)
-  pub failed : (folders : Folders) → shows true open_log folders → has_files folders → reading_failed result ≡ true
-      → Rose before.clock.faults after.clock.faults
-  pub minute : IsTrue before.clock.is_observable
-      → IfSome (given_between before.clock after.clock) (λ minute. minute ≡ next_minute before.clock)

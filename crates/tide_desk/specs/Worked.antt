@@ -24,7 +24,7 @@ empty_sink = record { accepted = []; most = 10; capacity = 1000; fault_schedule 
 
 -- a clock in memory that always returns 2000-01-10T03:00Z
 abbrev pub pier_clock : HeldClock
-pier_clock = record { minute = pos 15791220; returned_minutes = []; fault_schedule = no_calls }
+pier_clock = record { minute = pos 15791220; fails = []; readings = 0 }
 
 -- the functions that give the states of files, outputs and a clock in memory
 abbrev pub in_memory : States HeldFiles HeldSink HeldSink HeldClock

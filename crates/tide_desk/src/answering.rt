@@ -1,6 +1,6 @@
 //! The answer to a command line, or the first reason why there is none.
 
-ghost use Rattle.std.specs.Prelude.{◌≡◌, false, IsTrue, None, IsOk, IfOk, IfErr, IfSome, OnErr, if◌then◌else◌, map};
+ghost use Rattle.std.specs.Prelude.{◌≡◌, ℤ, false, IsTrue, Option, None, IsOk, IfOk, IfErr, OnErr, if◌then◌else◌, map};
 ghost use Rattle.decimal_text.specs.Expected.{EqualsUnlessNoMemory};
 ghost use Rattle.named_files.specs.RunFaults.{reading_failed, refused_over, faulty, is_out_of_memory};
 ghost use Rattle.named_files.specs.Opened.{AreShown, AreShownFor, IsResultOf, failing_file, names_to};
@@ -21,10 +21,10 @@ ghost use Rattle.tide_desk.specs.Answers.{
   refused_from,
 };
 ghost use Rattle.tide_desk.specs.Outcomes.{WentOn, sources};
-ghost use Rattle.tide_desk.specs.Shown.{IsReadLast, answer_shown, given_between, minute_read, names_wanted, shown_over};
+ghost use Rattle.tide_desk.specs.Shown.{Agrees, IsReadLast, answer_shown, minute_read, names_wanted, readings_between, shown_over};
 ghost use Rattle.tide_desk.specs.Workings.Replies.{IsReply, answer_by as answer_from};
 ghost use Rattle.tide_desk.specs.Workings.Settled.{reading_of};
-ghost use Rattle.tide_edge.specs.Clocks.{IsClockMinute, clock_after, next_minute};
+ghost use Rattle.tide_edge.specs.Clocks.{IsClockMinute, clock_after};
 
 use crate::asking::read_words;
 use crate::body::Body;
@@ -56,8 +56,9 @@ pub fn answer_words<F: Files, K: Clock>(
     sheets: Vec<Box<dyn Sheet>>,
 ) -> Result<Reply, RunFault>
     ensures shown { let sheet_specs = map sheet_spec sheets.items in let parsed_question = question_of_words sheet_specs words.now in
+        (given : Option ℤ) → Agrees given (readings_between (K.state clock.old) (K.state clock.new)) →
         IsResultOf (names_wanted parsed_question) (AreShownFor parsed_question)
-        (λ folders. answer_shown sheet_specs folders (given_between (K.state clock.old) (K.state clock.new)) words.now)
+        (λ folders. answer_shown sheet_specs folders given words.now)
         (F.state files.old).open_log (F.state files.new).open_log result }
     ensures reads { let parsed_question = question_of_words (map sheet_spec sheets.items) words.now in
         WentOn (reading_failed result) (ReadsClock parsed_question) (allowed_by parsed_question)
@@ -105,9 +106,9 @@ fn answer_over<F: Files, K: Clock>(
     sheets: Vec<Box<dyn Sheet>>,
 ) -> Result<Reply, RunFault>
     requires zone { IsZoneWord question.now.zone }
-    ensures shown { IsResultOf (names_to name.now question.now) (AreShown question.now)
-        (λ folders. shown_over (map sheet_spec sheets.items) folders (given_between (K.state clock.old) (K.state clock.new))
-        question.now name.now)
+    ensures shown { (given : Option ℤ) → Agrees given (readings_between (K.state clock.old) (K.state clock.new)) →
+        IsResultOf (names_to name.now question.now) (AreShown question.now)
+        (λ folders. shown_over (map sheet_spec sheets.items) folders given question.now name.now)
         (F.state files.old).open_log (F.state files.new).open_log result }
     ensures reads { WentOn (reading_failed result) (IsTrue (reads_clock question.now.command)) (files_allowed question.now)
         (sources (F.state files.old) (K.state clock.old)) (sources (F.state files.new) (K.state clock.new)) }
@@ -128,10 +129,8 @@ fn answer_over<F: Files, K: Clock>(
 
 /// Returns the present minute if the command needs it, and 0 otherwise.
 fn read_minute<K: Clock>(clock: &mut K, question: &ValidQuestion<'_>) -> Result<i64, RunFault>
-    ensures minute { IsTrue (K.state clock.old).is_observable
-        → IfSome (given_between (K.state clock.old) (K.state clock.new)) (λ minute. minute ≡ next_minute (K.state clock.old)) }
-    ensures given { EqualsUnlessNoMemory (λ none. false)
-        (minute_read question.now.command (given_between (K.state clock.old) (K.state clock.new))) result }
+    ensures given { (given : Option ℤ) → Agrees given (readings_between (K.state clock.old) (K.state clock.new))
+        → EqualsUnlessNoMemory (λ none. false) (minute_read question.now.command given) result }
     ensures in_range { IfOk result IsClockMinute }
     ensures unread { IfErr result (λ none. none ≡ RunFault.Unread) }
     ensures asked { OnErr result (IsTrue (reads_clock question.now.command)) }

@@ -3,5 +3,6 @@ pub mod WritingLemmas
 pub mod ReplyLemmas
 pub mod ReadingLemmas
 pub mod PieceLemmas
+pub mod ClockLemmas
 pub mod DoorLemmas
 pub mod MemoryLemmas

@@ -4,6 +4,7 @@ use Rattle.std.specs.Prelude.{ℕ, ◌≤◌, List, [], length, take, Option, So
 use Rattle.std.specs.Io.KnownBytes.{Appends}
 use Rattle.std.specs.declared.fd.AsRawFd as AsRawFd
 use Rattle.std.specs.declared.io.traits.Read as Read
+use Rattle.std.specs.declared.io.traits.Seek as Seek
 use Rattle.std.specs.declared.io.traits.Write as Write
 use Rattle.tide_edge.specs.declared.failed.Failed.{Failed}
 use Rattle.tide_edge.specs.declared.host_door.HostDoor.{HostDoor}
@@ -26,7 +27,8 @@ WritesThrough before after (Ok count) piece = Appends before after (take count p
 WritesThrough before after (Err failed) piece = (count : ℕ) × (count ≤ length piece) × Appends before after (take count piece)
 
 -- The file that is open in the machine's file system, or None if none is open.
-abbrev pub file_of : {R F D : Type 0} → HostFiles R F D → Option F
+abbrev pub file_of : {R F D : Type 0} {read : Read.Ghosts F} {write : Write.Ghosts F} {seek : Seek.Ghosts F} {directory : Read.Ghosts D}
+    → HostFiles R F D read write seek directory → Option F
 file_of files = files.opened
 
 -- The unread bytes of the open file by the function `remaining` (None if they aren't known); no

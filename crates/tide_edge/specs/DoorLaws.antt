@@ -23,10 +23,10 @@ AreOfRequests keeps_pieces (request ∷ requests) (c ∷ more) =
 -- Each connection of the door received bytes of the request at the same index, and no request is
 -- pending (without a connection) once `next` has returned false.
 pub record IsOfRequests (d : DoorState) : Type 0 where
-  pub connections : AreOfRequests d.keeps_pieces d.requests (connections_of d.connections)
+  pub connections : AreOfRequests d.door_contents.keeps_pieces d.door_contents.requests (connections_of d.connections)
   pub over : IsTrue d.listener_state.is_over → waiting_of d ≡ []
 
 -- The law of doors: if the requests are observable (the state has all of them), each connection
 -- received bytes of the request at the same index (`IsOfRequests`).
 abbrev pub IsLawful : DoorState → Type 0
-IsLawful d = IsTrue d.is_observable → IsOfRequests d
+IsLawful d = IsTrue d.door_contents.is_observable → IsOfRequests d

@@ -150,17 +150,21 @@ change_latest change c = record c { latest = option_map change c.latest }
 
 -- ---- the whole state
 
--- The state of a door. `is_observable`: it has all requests that will arrive, as for a door in
--- memory; false for a TCP port of the machine. `keeps_pieces`: a `read` returns bytes of one piece
--- only. `requests`: all requests, each as the nonempty pieces in which it arrives. No call changes
--- these three, and the last two mean something only if `is_observable`. `listener_state`: the port,
--- the flags and the count of connections. `connections`: the bytes read and written over each.
--- `faults` counts the failures of `listen` and `next`, `line_faults` of `read` and `write`, up to
--- the greatest `u64`.
-pub record DoorState : Type 0 where
+-- The part of a door's state that no call changes. `is_observable`: the state has all requests that
+-- will arrive, as for a door in memory; false for a TCP port of the machine. `keeps_pieces`: a `read`
+-- returns bytes of one piece only. `requests`: all requests, each as the nonempty pieces in which it
+-- arrives. The last two mean something only if `is_observable`.
+pub record DoorContents : Type 0 where
   pub is_observable : Bool
   pub keeps_pieces : Bool
   pub requests : List (List (List ℕ))
+
+-- The state of a door. `door_contents`: the part that no call changes. `listener_state`: the port, the
+-- flags and the count of connections. `connections`: the bytes read and written over each. `faults`
+-- counts the failures of `listen` and `next`, `line_faults` of `read` and `write`, up to the greatest
+-- `u64`.
+pub record DoorState : Type 0 where
+  pub door_contents : DoorContents
   pub listener_state : ListenerState
   pub connections : Connections
   pub faults : ℕ
@@ -169,7 +173,7 @@ pub record DoorState : Type 0 where
 -- The requests without a connection: all but the first n, if n connections were accepted. They mean
 -- something only if the state has all requests (`is_observable`).
 abbrev pub waiting_of : DoorState → List (List (List ℕ))
-waiting_of d = drop (length (connections_of d.connections)) d.requests
+waiting_of d = drop (length (connections_of d.connections)) d.door_contents.requests
 
 -- The replies: for each connection, in order, the bytes of its reply that were accepted.
 abbrev pub replies_of : DoorState → List (List ℕ)

@@ -1,5 +1,5 @@
 -- The calls on an object in memory, some of which fail (this project).
-use Rattle.std.specs.Prelude.{ℕ, ◌==◌, Bool, true, false, List, Result, Ok, Err}
+use Rattle.std.specs.Prelude.{ℕ, zero, suc, ◌==◌, Bool, true, false, List, Result, Ok, Err}
 use Rattle.std.specs.List.{list_any}
 use Rattle.tide_edge.specs.declared.failed.Failed.{Failed}
 use Rattle.tide_edge.specs.Faults.{counted, faults_after}
@@ -30,6 +30,12 @@ after_call failed fault_schedule = record {
   made = counted fault_schedule.made;
   faults = faults_after failed fault_schedule.faults;
 }
+
+-- The calls of an object in memory after as many as `count`, of which exactly those with a number in
+-- `fails` (counted from 1) have failed.
+abbrev pub calls_after : List ℕ → ℕ → HeldCalls
+calls_after fails zero = schedule_of fails
+calls_after fails (suc count) = after_call (is_to_fail (calls_after fails count)) (calls_after fails count)
 
 -- The result of a call: the error if the Bool is true, else the value.
 abbrev pub answer : {T : Type 0} → Bool → T → Result T Failed

@@ -1,6 +1,7 @@
 -- The contents of files, the calls of `open` with the bytes read after each, and what calls change
 -- (this project).
 use Rattle.std.specs.Prelude.{
+  ◌≡◌,
   ℕ,
   ◌+◌,
   ◌==◌,
@@ -18,6 +19,7 @@ use Rattle.std.specs.Prelude.{
   Some,
   None,
   unwrap_or,
+  IfSome,
   Result,
   Ok,
   Err,
@@ -69,6 +71,10 @@ as_list (Some value) = value ∷ []
 -- All calls of `open` as one list, the earliest first.
 abbrev pub openings_of : Openings → List Opening
 openings_of o = o.earlier ++ as_list o.latest
+
+-- No file is open: `open` wasn't called yet, or its latest call failed.
+abbrev pub IsNoneOpen : Openings → Type 0
+IsNoneOpen o = IfSome o.latest (λ opening. opening.is_open ≡ false)
 
 -- A call of `open` for the file `name`, before any byte is read; `is_open` is true if the call
 -- succeeded.

@@ -36,8 +36,8 @@ use Rattle.std.specs.Option.{option_map}
 use Rattle.std.specs.Str.{bytes_eq}
 use Rattle.tide_edge.specs.declared.named_file.NamedFile.{NamedFile}
 use Rattle.tide_edge.specs.declared.failed.Failed.{Failed}
-use Rattle.tide_edge.specs.FaultSchedule.{HeldCalls, answer, is_to_fail, after_call, schedule_of}
-use Rattle.tide_edge.specs.Clocks.{ClockState}
+use Rattle.tide_edge.specs.FaultSchedule.{HeldCalls, answer, is_to_fail, after_call, calls_after, schedule_of}
+use Rattle.tide_edge.specs.Clocks.{ClockState, held_readings}
 use Rattle.tide_edge.specs.Doors.{
   ListenerState,
   DoorState,
@@ -205,9 +205,7 @@ are_pieces pieces = list_all (λ piece. nat_lt 0 (length piece)) pieces
 -- and each `read` returns bytes of one piece only (`keeps_pieces`).
 abbrev pub door_state : HeldDoor → DoorState
 door_state contents = record {
-  is_observable = true;
-  keeps_pieces = true;
-  requests = contents.requests;
+  door_contents = record { is_observable = true; keeps_pieces = true; requests = contents.requests };
   listener_state = contents.listener_state;
   connections = contents.connections;
   faults = contents.fault_schedule.faults;
@@ -298,28 +296,24 @@ after_line_write contents piece = record contents {
 abbrev pub after_close : HeldDoor → HeldDoor
 after_close contents = record contents { listener_state = closed contents.listener_state }
 
--- A clock in memory that always shows the same minute (since 1970-01-01T00:00Z), with the minutes
--- returned until now, and the calls counted.
+-- A clock in memory that always shows the same minute (since 1970-01-01T00:00Z). `fails`: the numbers
+-- of the readings that are to fail, counted from 1; `readings`: the number of readings until now.
 pub record HeldClock : Type 0 where
   pub minute : ℤ
-  pub returned_minutes : List ℤ
-  pub fault_schedule : HeldCalls
+  pub fails : List ℕ
+  pub readings : ℕ
+
+-- True if the reading of the clock in memory with this number, counted from 0, is to fail.
+abbrev pub is_reading_to_fail : HeldClock → ℕ → Bool
+is_reading_to_fail contents number = is_to_fail (calls_after contents.fails number)
 
 -- The state of a clock in memory, as the trait `Clock` has it: it has the minute of each reading
 -- (`is_observable`), which is always the same.
 abbrev pub clock_state : HeldClock → ClockState
 clock_state contents = record {
   is_observable = true;
-  minute_at = λ asking. contents.minute;
-  returned_minutes = contents.returned_minutes;
-  readings = contents.fault_schedule.made;
-  faults = contents.fault_schedule.faults;
-}
-
--- The clock in memory after another reading.
-abbrev pub after_minute : HeldClock → HeldClock
-after_minute contents = record {
-  minute = contents.minute;
-  returned_minutes = (if is_to_fail contents.fault_schedule then contents.returned_minutes else contents.returned_minutes ++ contents.minute ∷ []);
-  fault_schedule = after_call (is_to_fail contents.fault_schedule) contents.fault_schedule;
+  minute_at = λ number. contents.minute;
+  fails_at = is_reading_to_fail contents;
+  readings = held_readings (λ number. contents.minute) (is_reading_to_fail contents) contents.readings;
+  faults = (calls_after contents.fails contents.readings).faults;
 }

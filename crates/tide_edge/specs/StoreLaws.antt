@@ -24,10 +24,13 @@ abbrev pub IsOfStore : FileContents → Opening → Type 0
 IsOfStore file_contents o = (left : List ℕ) × IsReadOf file_contents left o
 
 -- What was read after each call of `open` agrees with the contents of the files (`IsReadOf`), and
--- the unread bytes of the state are the other bytes of the file that was opened last.
+-- the unread bytes of the state are the other bytes of the file that was opened last. Before the
+-- first call of `open` no byte is unread and, if the files are steady (calls on existing files never
+-- fail), no call has failed.
 pub record AreOfStore (s : FilesState) : Type 0 where
   pub earlier : All (IsOfStore s.file_contents) s.open_log.earlier
   pub latest : IfSome s.open_log.latest (λ o. IsReadOf s.file_contents s.unread_bytes o)
+  pub unopened : s.open_log.latest ≡ None → (s.unread_bytes ≡ []) × (IsTrue s.file_contents.is_steady → s.faults ≡ 0)
 
 -- The law of files: if they are observable (the state has their contents), what was read after each
 -- call of `open` agrees with these contents (`AreOfStore`).

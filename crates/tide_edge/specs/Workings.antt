@@ -1,3 +1,4 @@
+pub mod HeldClocks
 pub mod HeldDoors
 pub mod OpenFile
 pub mod Lines

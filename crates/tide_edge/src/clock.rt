@@ -1,16 +1,15 @@
 //! Clocks that show the present minute.
 
-ghost use Rattle.std.specs.Prelude.{◌≡◌, IsTrue, IfOk};
-ghost use Rattle.tide_edge.specs.Clocks.{ClockState, IsClockMinute, clock_after, next_minute};
+ghost use Rattle.std.specs.Prelude.{◌≡◌, IfOk};
+ghost use Rattle.tide_edge.specs.Clocks.{ClockState, IsClockMinute, IsLawful, clock_after};
 
 use crate::failed::Failed;
 
 /// A clock that shows the present minute.
 ///
-/// In contracts, `state` has the minutes returned until now, and the numbers of readings and
-/// failures. If its flag `is_observable` is true, as for a clock in memory, it also has the minute
-/// that each later reading returns. The machine's clock isn't observable: its later minutes aren't
-/// known. No call changes the flag or these later minutes.
+/// In contracts, `state` has the readings until now, each a minute or a failure, and the number of
+/// failures. If its flag `is_observable` is true, as for a clock in memory, it also has the future
+/// readings. The machine's clock isn't observable. No call changes the flag or the future readings.
 pub trait Clock {
     ghost state: { Self → ClockState };
 
@@ -22,6 +21,9 @@ pub trait Clock {
     /// [`Failed`] if the clock can't be read or shows a minute out of this range.
     fn minute(&mut self) -> Result<i64, Failed>
         ensures after { state self.new ≡ clock_after result (state self.old) }
-        ensures in_range { IfOk result IsClockMinute }
-        ensures observed { IsTrue (state self.old).is_observable → IfOk result (λ minute. minute ≡ next_minute (state self.old)) };
+        ensures in_range { IfOk result IsClockMinute };
+
+    /// If the future readings are observable, the readings until now are the first of those that the clock
+    /// has.
+    ghost lawful: { (clock : Self) → IsLawful (state clock) };
 }

@@ -1,7 +1,7 @@
 //! Files that are opened by name and read from beginning to end.
 
-ghost use Rattle.std.specs.Prelude.{◌≡◌, ◌↔◌, ◌<◌, ◌≤◌, IsTrue, [], length, take, None, IsOk, IsSome, IfOk, OnOk, OnErr};
-ghost use Rattle.tide_edge.specs.FileStates.{FilesState, files_after_open, files_after_read};
+ghost use Rattle.std.specs.Prelude.{◌≡◌, ◌<◌, ◌≤◌, length, IfOk};
+ghost use Rattle.tide_edge.specs.FileStates.{FilesState, IsNoneOpen, files_after_open, files_after_read};
 ghost use Rattle.tide_edge.specs.StoreLaws.{IsLawful};
 
 use crate::failed::Failed;
@@ -23,10 +23,7 @@ pub trait Files {
     /// [`Failed`] if the file can't be opened; then no file is open. Files that are observable
     /// (their contents are in the state) and steady fail only if there is no file `name`.
     fn open(&mut self, name: &Text) -> Result<(), Failed>
-        ensures after { state self.new ≡ files_after_open result name.now (state self.old) }
-        ensures found { IsTrue (state self.old).file_contents.is_observable → OnOk result (IsSome ((state self.old).file_contents.folder name.now)) }
-        ensures absent { IsTrue (state self.old).file_contents.is_observable → IsTrue (state self.old).file_contents.is_steady
-            → OnErr result ((state self.old).file_contents.folder name.now ≡ None) };
+        ensures after { state self.new ≡ files_after_open result name.now (state self.old) };
 
     /// Reads the next bytes of the open file into the first bytes of `buffer`, which isn't empty,
     /// and returns their count: 0 at the end of the file, or if no file is open.
@@ -39,14 +36,11 @@ pub trait Files {
         requires { 0 < length buffer.old }
         ensures after { state self.new ≡ files_after_read result buffer.new (state self.old) }
         ensures within { IfOk result (λ count. count ≤ length buffer.old) }
-        ensures next_bytes { IsTrue (state self.old).file_contents.is_observable
-            → IfOk result (λ count. take count buffer.new ≡ take count (state self.old).unread_bytes) }
-        ensures end { IsTrue (state self.old).file_contents.is_observable → IfOk result (λ count. (count ≡ 0) ↔ ((state self.old).unread_bytes ≡ [])) }
-        ensures reads { IsTrue (state self.old).file_contents.is_observable → IsTrue (state self.old).file_contents.is_steady → IsOk result };
+        ensures none_open { IsNoneOpen (state self.old).open_log → IfOk result (λ count. count ≡ 0) };
 
     /// The law of files. If the files are observable (the state has their contents), the bytes read
     /// after each call of `open` are a prefix of the file's bytes, and all of them if its end was
     /// found. If the files are also steady, a call of `open` has failed only if there is no such
-    /// file, and no read has failed.
+    /// file, and no read has failed. Before the first call of `open` no byte is unread.
     ghost lawful: { (files : Self) → IsLawful (state files) };
 }

@@ -5,7 +5,6 @@ ghost use Rattle.std.specs.Time.{system_time_nanos};
 ghost use Rattle.tide_edge.specs.Clocks.{IsClockMinute};
 
 use crate::clock::Clock;
-use crate::count::one_more;
 use crate::failed::Failed;
 use crate::host_fault::count_fault;
 use ghost_log::Log;
@@ -14,48 +13,62 @@ use std::{rt, slice};
 
 const LAST_MINUTE: u64 = 10_000_000_000;
 
-/// The clock of the machine. Contracts know the minutes that it has returned, but not the minute
-/// that a later reading returns.
+/// The clock of the machine. Contracts know its readings until now, but not its future readings.
 ///
 /// A reading fails if the machine's clock can't be read, or if it shows a time before 1970 or more
 /// than 10,000,000,000 whole minutes after 1970-01-01T00:00Z.
 #[derive(Drop)]
 pub struct HostClock<R: rt::Clock + Drop> {
     system: R,
-    returned_minutes: Log<i64>,
+    readings: Log<Option<i64>>,
     faults: u64,
-    readings: u64,
 }
 
 impl<R: rt::Clock + Drop> HostClock<R> {
     /// Returns a clock that reads the time of the machine from `system`.
     pub fn new(system: R) -> HostClock<R>
-        ensures returned_minutes { (⟦<HostClock<R> as Clock>⟧.state result).returned_minutes ≡ [] }
+        ensures readings { (⟦<HostClock<R> as Clock>⟧.state result).readings ≡ [] }
         ensures faults { (⟦<HostClock<R> as Clock>⟧.state result).faults ≡ 0 }
-        ensures readings { (⟦<HostClock<R> as Clock>⟧.state result).readings ≡ 0 }
     {
         HostClock {
             system,
-            returned_minutes: Log::new(),
+            readings: Log::new(),
             faults: 0,
-            readings: 0,
         }
     }
 }
 
 impl<R: rt::Clock + Drop> Clock for HostClock<R> {
-    ghost state = { λ h.
-        record { is_observable = false; minute_at = λ reading. pos 0; returned_minutes = h.returned_minutes.items; readings = h.readings; faults = h.faults } };
+    ghost use Rattle.std.proofs.Common.{true≢false, sym};
+
+    ghost state = { λ h. record {
+      is_observable = false;
+      minute_at = λ number. pos 0;
+      fails_at = λ number. false;
+      readings = h.readings.items;
+      faults = h.faults;
+    } };
+
+    ghost lawful = { λ _ is. absurd (true≢false (sym is)) };
 
     fn minute(&mut self) -> Result<i64, Failed> {
-        self.readings = one_more(self.readings);
-        if let Ok(now) = SystemTime::now(&self.system)
-            && let Some(minute) = minute_at(now)
-        {
-            self.returned_minutes = self.returned_minutes.then(slice::from_ref(&minute));
-            return Ok(minute);
+        let reading = present_minute(&self.system);
+        self.readings = self.readings.then(slice::from_ref(&reading));
+        match reading {
+            Some(minute) => Ok(minute),
+            None => Err(count_fault(&mut self.faults)),
         }
-        Err(count_fault(&mut self.faults))
+    }
+}
+
+/// Returns the present time of `system` in whole minutes since 1970-01-01T00:00Z, or `None` if it can't
+/// be read or exceeds 10,000,000,000.
+fn present_minute(system: &impl rt::Clock) -> Option<i64>
+    ensures { IfSome result IsClockMinute }
+{
+    match SystemTime::now(system) {
+        Ok(now) => minute_at(now),
+        Err(_) => None,
     }
 }
 

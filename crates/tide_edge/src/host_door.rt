@@ -68,9 +68,7 @@ impl<R: Net + rt::Clock + Drop> Door for HostDoor<R> {
     ghost use Rattle.std.proofs.Common.{true≢false, sym};
 
     ghost state = { λ h. record {
-      is_observable = false;
-      keeps_pieces = false;
-      requests = [];
+      door_contents = record { is_observable = false; keeps_pieces = false; requests = [] };
       listener_state = h.listener_state;
       connections = h.connections;
       faults = h.faults;

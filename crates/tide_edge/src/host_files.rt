@@ -1,8 +1,8 @@
 //! The files of the file system.
 
-ghost use Rattle.std.specs.Prelude.{◌≡◌, ◌<◌, ◌≤◌, false, [], length, None, IfOk, OnOk, OnErr, IsSome};
+ghost use Rattle.std.specs.Prelude.{◌≡◌, ◌<◌, ◌≤◌, false, [], length, None, IfOk, OnOk, OnErr, IsSome, IsTrue, is_none};
 ghost use Rattle.std.specs.Io.KnownBytes.{ReadConsumes};
-ghost use Rattle.tide_edge.specs.FileStates.{FilesState, no_openings, files_after_open, files_after_read};
+ghost use Rattle.tide_edge.specs.FileStates.{FilesState, IsNoneOpen, no_openings, files_after_open, files_after_read};
 
 use crate::failed::Failed;
 use crate::files::Files;
@@ -23,6 +23,7 @@ pub struct HostFiles<R: rt::Files + Drop> {
     opened: Option<R::File>,
     open_log: Openings,
     faults: u64,
+    ghost none_open: { IsNoneOpen open_log → IsTrue (is_none opened) },
 }
 
 impl<R: rt::Files + Drop> HostFiles<R> {
@@ -81,6 +82,7 @@ impl<R: rt::Files + Drop> Files for HostFiles<R> {
         ensures after { ⟦<HostFiles<R> as Files>⟧.state self.new
             ≡ files_after_read result buffer.new (⟦<HostFiles<R> as Files>⟧.state self.old) }
         ensures within { IfOk result (λ count. count ≤ length buffer.old) }
+        ensures none_open { IsNoneOpen (⟦<HostFiles<R> as Files>⟧.state self.old).open_log → IfOk result (λ count. count ≡ 0) }
         ensures tied { ReadConsumes (left_of R.File.remaining (file_of self.old))
             (left_of R.File.remaining (file_of self.new)) result buffer.new }
     {

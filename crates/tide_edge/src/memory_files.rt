@@ -2,7 +2,6 @@
 
 ghost use Rattle.std.specs.Prelude.{
   ◌≡◌,
-  ◌↔◌,
   ◌+◌,
   ◌-◌,
   ◌<◌,
@@ -18,12 +17,7 @@ ghost use Rattle.std.specs.Prelude.{
   None,
   is_none,
   if◌then◌else◌,
-  IsTrue,
-  IsSome,
-  IsOk,
   IfOk,
-  OnOk,
-  OnErr,
 };
 ghost use Rattle.std.specs.Option.{option_map};
 ghost use Rattle.std.specs.Str.{bytes_eq};
@@ -83,7 +77,7 @@ impl MemoryFiles {
 
 impl Files for MemoryFiles {
     ghost use Rattle.std.specs.Result.{result_unwrap_or};
-    ghost use Rattle.tide_edge.specs.FileStates.{files_after_open, files_after_read};
+    ghost use Rattle.tide_edge.specs.FileStates.{IsNoneOpen, files_after_open, files_after_read};
     ghost use Rattle.tide_edge.specs.Memory.{Open, Read, files_now, files_state, open_result, read_result};
     ghost use Rattle.tide_edge.specs.Workings.MemoryLaws.{memory_lawful};
 
@@ -95,8 +89,6 @@ impl Files for MemoryFiles {
         ensures answer { result ≡ open_result (files_now self.old) name.now }
         ensures history { self.new ≡ record self.old { history = self.old.history ++ Open name.now ∷ [] } }
         ensures after { files_state self.new ≡ files_after_open result name.now (files_state self.old) }
-        ensures found { OnOk result (IsSome ((files_state self.old).file_contents.folder name.now)) }
-        ensures absent { IsTrue (files_state self.old).file_contents.is_steady → OnErr result ((files_state self.old).file_contents.folder name.now ≡ None) }
     {
         self.history = then_open(&self.history, name);
         self.opened = find(&mut self.fault_schedule, &self.files, name);
@@ -112,9 +104,7 @@ impl Files for MemoryFiles {
             buffer.new ≡ take count (files_state self.old).unread_bytes ++ drop count buffer.old }
         ensures after { files_state self.new ≡ files_after_read result buffer.new (files_state self.old) }
         ensures within { IfOk result (λ count. count ≤ length buffer.old) }
-        ensures next_bytes { IfOk result (λ count. take count buffer.new ≡ take count (files_state self.old).unread_bytes) }
-        ensures end { IfOk result (λ count. (count ≡ 0) ↔ ((files_state self.old).unread_bytes ≡ [])) }
-        ensures reads { IsTrue (files_state self.old).file_contents.is_steady → IsOk result }
+        ensures none_open { IsNoneOpen (files_state self.old).open_log → IfOk result (λ count. count ≡ 0) }
     {
         self.history = then_read(&self.history, buffer.len() - 1);
         self.fault_schedule.next()?;

@@ -92,13 +92,12 @@ pub went_row : (served_data : ServedData) (row : ReplyRow) (request : List ℕ) 
     → HasRead false request first now → request ≢ [] → IsRow request row
     → RowSent false served_data row now after clock clock_now
     → Went false served_data (λ c. with_latest c first) after clock clock_now
-went_row served_data row request first now after clock clock_now read some is (text, false, minute, next, made, sends, asked) = record {
+went_row served_data row request first now after clock clock_now read some is (text, false, minute, made, sends, asked) = record {
   connection = sending text false (read_as false request read.count read.is_ended);
   door = sent_behind false first now after request text read.count read.is_ended read.door sends;
   ended = (
     Some minute,
     asked,
-    next,
     record {
       read = record { waits = read.enough.waits; one = read.enough.one; until = read.enough.until };
       asked = some_byte request some;
@@ -106,13 +105,12 @@ went_row served_data row request first now after clock clock_now read some is (t
     },
   );
 }
-went_row served_data row request first now after clock clock_now read some is (text, true, minute, next, made, sends, asked) = record {
+went_row served_data row request first now after clock clock_now read some is (text, true, minute, made, sends, asked) = record {
   connection = sending (take sends.0 text) true (read_as false request read.count read.is_ended);
   door = sent_behind true first now after request (take sends.0 text) read.count read.is_ended read.door sends.2;
   ended = (
     Some minute,
     asked,
-    next,
     record {
       read = record { waits = read.enough.waits; one = read.enough.one; until = read.enough.until };
       asked = some_byte request some;
@@ -155,7 +153,6 @@ went_silent served_data first now clock read = record {
   ended = (
     None,
     refl,
-    λ k. tt,
     record { read = read.enough; asked = refl; answered = record { sent = refl; unfailed = refl } },
   );
 }
@@ -170,7 +167,6 @@ went_unread served_data request first now clock read = record {
   ended = (
     None,
     refl,
-    λ k. tt,
     record { read = read.enough; asked = refl; answered = record { sent = refl; unfailed = refl } },
   );
 }

@@ -1,5 +1,5 @@
 -- A server over objects that don't fail ends by its data, or out of memory.
-use Rattle.std.proofs.Common.{◌≡◌, ◌⊎◌, ◌∙◌, ℕ, Bool, true, false, List, [], ◌∷◌, codes, Some, None, Result, Ok, Err, inl, inr, refl, ap, arith, le_refl}
+use Rattle.std.proofs.Common.{◌≡◌, ◌⊎◌, ◌∙◌, ℕ, Bool, true, false, List, [], ◌∷◌, codes, Some, None, Result, Ok, Err, inl, inr, refl, ap, arith, le_refl, subst}
 use Rattle.std.specs.Bool.{IsTrue}
 use Rattle.std.specs.Prelude.{count_by}
 use Rattle.decimal_text.specs.Expected.{Excuses}
@@ -10,7 +10,7 @@ use Rattle.harmonics_text.specs.Worked.{file_of, pier_lines}
 use Rattle.named_files.specs.declared.run_fault.RunFault.{RunFault}
 use Rattle.named_files.specs.declared.run_fault.RunFault.TheVariants.{Unread, Faulty}
 use Rattle.named_files.specs.declared.run_fault.RunFault.TheVariants as none_of
-use Rattle.named_files.specs.RunFaults.{source_of, status_of}
+use Rattle.named_files.specs.RunFaults.{is_read_fault, source_of, status_of}
 use Rattle.named_files.specs.Readings.{book_named, table_named}
 use Rattle.question.specs.declared.command.Command.TheVariants.{Serve}
 use Rattle.question.specs.declared.fault.AskFault.TheVariants as ask
@@ -23,11 +23,13 @@ use Rattle.tide_edge.specs.Faults.{Rose, counted, faults_after}
 use Rattle.tide_fault.specs.declared.fault.Fault.TheVariants.{Ask, NoSheet, TooLong, Book, Offsets, BadZone, Refused}
 use Rattle.tide_fault.specs.declared.refusal.Refusal.TheVariants as refusals
 use Rattle.tide_fault.specs.declared.status.Status.{Status}
-use Rattle.tide_fault.specs.declared.status.Status.TheVariants.{NoMemory}
+use Rattle.tide_fault.specs.declared.status.Status.TheVariants.{Done, NoMemory}
 use Rattle.tide_server.specs.declared.served_data.ServedData.{ServedData}
 use Rattle.tide_server.specs.Completeness.{EndedBefore, EndsBy, IsComplete, NothingFailed, ServedAll}
+use Rattle.tide_server.specs.Conversations.{HasServed, ReturnsNext}
 use Rattle.tide_server.specs.Openings.{EndedBy, HasListened, IsRefused, service_of, served_data_from, served_data_named, served_data_of}
 use Rattle.tide_server.specs.Promises.{ServesAs, ServiceStates, Services, server_states_of}
+use Rattle.tide_server.specs.Serving.{exchange}
 use Rattle.tide_server.specs.Worked.{in_memory, pier, pier_data, pier_words}
 
 -- ---- No connection was served
@@ -111,12 +113,17 @@ served_all : {F D E K : Type 0} (s : ServiceStates F D E K) (words : List (List 
     → ServedAll s served_data status before after
 served_all s words served_data status before after serves nothing listened =
     elim listened.ends [
-      | inl done ↦ record {
-        ends = done;
-        port = listened.asked;
-        over = serves.done done;
-        passed = rw done at listened.passed;
-      }
+      | inl done ↦
+          let P : Status → Type 0 = λ st. (passed : HasServed served_data (is_read_fault st)
+          (exchange (s.door before.door) (s.clock before.clock)) (exchange (s.door after.door) (s.clock after.clock)))
+          × ReturnsNext (s.clock before.clock) passed.minutes in
+          let served : P Done = subst P done (listened.passed, listened.next) in record {
+            ends = done;
+            port = listened.asked;
+            over = serves.done done;
+            passed = served.0;
+            next = served.1;
+          }
       | inr failed ↦ absurd (unfailing s served_data before after nothing listened.asked (rw failed at serves.fault))
     ]
 

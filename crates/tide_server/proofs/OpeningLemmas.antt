@@ -82,10 +82,7 @@ files_failed failed before after files unasked door clock = record {
   files_count = files;
   files_first = λ is. ap (λ d. d.listener_state.port) door ∙ unasked;
   door_count = ap (λ d. d.faults) door;
-  door_observable = ap (λ d. d.is_observable) door;
-  door_pieces = ap (λ d. d.keeps_pieces) door;
-  door_requests = ap (λ d. d.requests) door;
-  returned_minutes = before.clock.returned_minutes;
+  door_contents = ap (λ d. d.door_contents) door;
   readings = before.clock.readings;
   clock_state = clock;
 }

@@ -307,37 +307,35 @@ last_by true rs before (c ∷ more) are keeps enough =
 last_by false rs before all are keeps enough = absurd (cc)
 
 -- the requests that were answered, from the connections of a lawful port
-pub all_served : (served_data : ServedData) (has_failed : Bool) (before after : Exchange) → after.door.requests ≡ before.door.requests
-    → AreOfRequests before.door.keeps_pieces after.door.requests (connections_of after.door.connections)
-    → IsTrue before.clock.is_observable
-    → HasServed served_data has_failed before after → Served served_data has_failed before after
-all_served served_data has_failed before after same law k passed =
-    let keeps = before.door.keeps_pieces in
+pub all_served : (served_data : ServedData) (has_failed : Bool) (before after : Exchange)
+    (passed : HasServed served_data has_failed before after) → after.door.door_contents ≡ before.door.door_contents
+    → AreOfRequests before.door.door_contents.keeps_pieces before.door.door_contents.requests (connections_of after.door.connections)
+    → AreNext before.clock passed.minutes → Served served_data has_failed before after
+all_served served_data has_failed before after passed same law next =
+    let keeps = before.door.door_contents.keeps_pieces in
+    let requests = before.door.door_contents.requests in
     let earlier : List Connection = connections_of before.door.connections in
     let all : List Connection = passed.over ++ as_list passed.left in
-    let rs : List (List (List ℕ)) = drop (length earlier) before.door.requests in
+    let rs : List (List (List ℕ)) = drop (length earlier) requests in
     let parts : connections_of after.door.connections ≡ earlier ++ all =
     passed.connections ∙ append_assoc earlier passed.over (as_list passed.left) in
-    let are : AreOfRequests keeps before.door.requests (earlier ++ all) =
-    subst (λ (cs : List Connection). AreOfRequests keeps before.door.requests cs) parts
-    (subst (λ (r : List (List (List ℕ))). AreOfRequests keeps r (connections_of after.door.connections)) same law) in
-    let now : AreOfRequests keeps rs all = of_later keeps before.door.requests earlier all are in
+    let are : AreOfRequests keeps requests (earlier ++ all) = subst (λ (cs : List Connection). AreOfRequests keeps requests cs) parts law in
+    let now : AreOfRequests keeps rs all = of_later keeps requests earlier all are in
     let first : AreOfRequests keeps rs passed.over = of_first keeps rs passed.over (as_list passed.left) now in
     let left = left_of keeps served_data has_failed (drop (length passed.over) rs) passed.left
     (of_later keeps rs passed.over (as_list passed.left) now) passed.last passed.ends in
     let served : List Conversation = conversations rs passed.over in
-    let next = passed.next k in
     let accepted : map (λ (c : Conversation). c.request) served ++ left.requests ≡ take (length all) rs =
     ap (λ x. x ++ left.requests) (requests_of keeps rs passed.over first)
     ∙ ap (λ x. take (length passed.over) rs ++ x) left.accepted
     ∙ sym (take-add (length passed.over) (length (as_list passed.left)) rs)
     ∙ ap (λ n. take n rs) (sym (length-append passed.over (as_list passed.left))) in
     let pending : waiting_of after.door ≡ drop (length all) rs =
-    ap (λ n. drop n after.door.requests) (ap length parts ∙ length-append earlier all)
-    ∙ ap (drop (length earlier + length all)) same
-    ∙ sym (drop-drop (length all) (length earlier) before.door.requests) in
-    let unread : unread_of after.door.requests (connections_of after.door.connections) ≡ unread_of before.door.requests (earlier ++ all) =
-    ap (λ r. unread_of r (connections_of after.door.connections)) same ∙ ap (unread_of before.door.requests) parts in
+    ap (λ n. drop n after.door.door_contents.requests) (ap length parts ∙ length-append earlier all)
+    ∙ ap (λ c. drop (length earlier + length all) c.requests) same
+    ∙ sym (drop-drop (length all) (length earlier) requests) in
+    let unread : unread_of after.door.door_contents.requests (connections_of after.door.connections) ≡ unread_of requests (earlier ++ all) =
+    ap (λ c. unread_of c.requests (connections_of after.door.connections)) same ∙ ap (unread_of requests) parts in
     record {
       served = served;
       left = left.requests;
@@ -356,8 +354,8 @@ all_served served_data has_failed before after same law k passed =
       held = all_held keeps served_data rs passed.over passed.minutes before.clock first passed.served next;
       read = λ is.
           subst (λ (ps : List (List ℕ)). IsLastReadAsNeeded (map (λ c. c.request) served ++ left.requests) ps) (sym unread)
-          (subst (λ (x : List (List (List ℕ))). IsLastReadAsNeeded x (unread_of before.door.requests (earlier ++ all))) (sym accepted)
-          (last_by keeps before.door.requests earlier all are is
+          (subst (λ (x : List (List (List ℕ))). IsLastReadAsNeeded x (unread_of requests (earlier ++ all))) (sym accepted)
+          (last_by keeps requests earlier all are is
           (enough_of served_data passed.over passed.minutes passed.left passed.served passed.last)));
       cut = rw (cuts_of keeps rs passed.over first) passed.cut;
       clock =

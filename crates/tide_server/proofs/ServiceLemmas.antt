@@ -1,11 +1,11 @@
 -- The end of a server that has data.
-use Rattle.std.proofs.Common.{◌≡◌, Bool, true, false, [], ◌∷◌, Ok, Err, inl, inr, sym, subst, refl}
-use Rattle.std.specs.Bool.{IsTrue}
+use Rattle.std.proofs.Common.{◌≡◌, ℤ, Bool, true, false, if◌then◌else◌, List, [], ◌∷◌, is_some, Ok, Err, inl, inr, sym, subst, refl}
 use Rattle.std.specs.Prelude.{codes, count_by}
 use Rattle.tide_edge.specs.declared.failed.Failed.{Failed}
-use Rattle.tide_edge.specs.Clocks.{ClockState}
-use Rattle.tide_edge.specs.DoorLaws.{AreOfRequests, IsLawful}
-use Rattle.tide_edge.specs.Doors.{DoorState, connections_of, door_after_listen}
+use Rattle.tide_edge.specs.Clocks.{ClockState, clock_after, IsLawful as IsLawfulClock}
+use Rattle.tide_edge.specs.DoorLaws.{IsLawful}
+use Rattle.tide_edge.specs.Doors.{DoorState, door_after_listen}
+use Rattle.tide_edge.proofs.ClockLemmas.{lawful_before, returned_next}
 use Rattle.tide_edge.specs.FileStates.{FilesState}
 use Rattle.tide_edge.specs.SinkStates.{SinkState, Wrote}
 use Rattle.tide_fault.specs.declared.status.Status.{Status}
@@ -14,9 +14,9 @@ use Rattle.named_files.specs.RunFaults.{is_read_fault}
 use Rattle.tide_server.specs.declared.outage.Outage.{Outage}
 use Rattle.tide_server.specs.declared.outage.Outage.TheVariants as outages
 use Rattle.tide_server.specs.declared.served_data.ServedData.{ServedData}
-use Rattle.tide_server.specs.Conversations.{HasServed}
+use Rattle.tide_server.specs.Conversations.{AreNext, HasServed, ReturnsNext, after_minutes}
 use Rattle.tide_server.specs.Openings.{EndedBy, HasListened, notice_of}
-use Rattle.tide_server.specs.Serving.{Exchange, exchange}
+use Rattle.tide_server.specs.Serving.{Exchange, clock_failed, exchange}
 use Rattle.tide_server.specs.Workings.Ends.{Ended, Unread, unread, with_files}
 use Rattle.tide_server.specs.Workings.Steps.{Serves, is_clock, is_door}
 use Rattle.tide_server.proofs.OpeningLemmas.{never, wrote_first, wrote_one}
@@ -78,7 +78,6 @@ same_passed value served_data failed door clock after s = record {
   counted = s.counted;
   cut = s.cut;
   clock = s.clock;
-  next = s.next;
   served = s.served;
   last = s.last;
   ends = s.ends;
@@ -102,11 +101,8 @@ ended_listening value served_data status door opened door_after err err_after cl
       door_failed = e.door_failed;
       one = e.one;
       kept = record {
-        is_observable = e.kept.is_observable;
-        pieces = e.kept.pieces;
-        requests = e.kept.requests;
+        door_contents = e.kept.door_contents;
         faults = e.kept.faults;
-        returned_minutes = e.kept.returned_minutes;
         readings = e.kept.readings;
         clock = e.kept.clock;
       };
@@ -130,11 +126,8 @@ unlistening T served_data failed_to door err err_after clock failed wrote = reco
   door_failed = true;
   one = refl;
   kept = record {
-    is_observable = refl;
-    pieces = refl;
-    requests = refl;
+    door_contents = refl;
     faults = refl;
-    returned_minutes = clock.returned_minutes;
     readings = clock.readings;
     clock = refl;
   };
@@ -151,22 +144,43 @@ ended_unlistening T served_data failed_to door door_after err err_after clock fa
 
 -- ---- The whole server
 
--- the connections, and the requests that were answered if the port is lawful
+next_by : (minutes : List ℤ) (clock : ClockState) → IsLawfulClock (after_minutes minutes clock)
+    → IsLawfulClock clock × ReturnsNext clock minutes
+unfolding AreNext after_minutes
+next_by [] clock law = (law, λ k. tt)
+next_by (minute ∷ more) clock law =
+    let later = next_by more (clock_after (Ok minute) clock) law in
+    (lawful_before (Ok minute) clock later.0, λ k. (returned_next minute clock later.0 k, later.1 k))
+
+unfailed : (has_failed : Bool) (clock : ClockState) → IsLawfulClock (if has_failed then clock_failed clock else clock) → IsLawfulClock clock
+unfailed true clock law = lawful_before (Err record {}) clock law
+unfailed false clock law = law
+
+-- the minutes that a lawful clock returned
+returns_next : (served_data : ServedData) (has_failed : Bool) (before after : Exchange)
+    (s : HasServed served_data has_failed before after) → IsLawfulClock after.clock → ReturnsNext before.clock s.minutes
+returns_next served_data has_failed before after s law =
+    (next_by s.minutes before.clock
+    (unfailed (is_some s.left) (after_minutes s.minutes before.clock) (subst (λ (k : ClockState). IsLawfulClock k) s.clock law))).1
+
+-- the connections, and the requests that were answered if the port and the clock are lawful
 pub has_listened : (served_data : ServedData) (status : Status) (before after : Unread) (files left : FilesState)
-    → Ended served_data status before after → IsLawful after.door
+    → Ended served_data status before after → IsLawful after.door → IsLawfulClock after.clock
     → HasListened served_data status (with_files files before) (with_files left after)
-has_listened served_data status before after files left e law = record {
-  asked = e.port;
-  ends = e.ends;
-  passed = e.passed;
-  served = λ t k.
-      let of = law (subst (λ (b : Bool). IsTrue b) (sym e.kept.is_observable) t) in
-      let are : AreOfRequests before.door.keeps_pieces after.door.requests (connections_of after.door.connections) =
-      subst (λ (b : Bool). AreOfRequests b after.door.requests (connections_of after.door.connections)) e.kept.pieces of.connections in
-      all_served served_data (is_read_fault status) (exchange before.door before.clock) (exchange after.door after.clock) e.kept.requests
-      are k e.passed;
-  wrote = e.wrote;
-}
+has_listened served_data status before after files left e law clock_law =
+    let first = exchange before.door before.clock in
+    let last = exchange after.door after.clock in
+    let next = returns_next served_data (is_read_fault status) first last e.passed clock_law in record {
+      asked = e.port;
+      ends = e.ends;
+      passed = e.passed;
+      next = next;
+      served = λ t k.
+          let of = law (rw e.kept.door_contents t) in
+          all_served served_data (is_read_fault status) first last e.passed e.kept.door_contents
+          (rw e.kept.door_contents at of.connections) (next k);
+      wrote = e.wrote;
+    }
 
 pub ended_by : (served_data : ServedData) (status : Status) (before after : Unread) (files left : FilesState)
     → Ended served_data status before after → left.faults ≡ files.faults
@@ -179,10 +193,7 @@ ended_by served_data status before after files left e same = record {
   files_count = same;
   files_first = λ is. never is;
   door_count = e.kept.faults;
-  door_observable = e.kept.is_observable;
-  door_pieces = e.kept.pieces;
-  door_requests = e.kept.requests;
-  returned_minutes = e.kept.returned_minutes;
+  door_contents = e.kept.door_contents;
   readings = e.kept.readings;
   clock_state = e.kept.clock;
 }

@@ -4,16 +4,16 @@ use Rattle.std.specs.Bool.{IsTrue}
 use Rattle.std.specs.Prelude.{ℤ, count_by, ◌==◌, ◌||◌, ◌&&◌, ◌-◌, not, if◌then◌else◌}
 use Rattle.std.proofs.lemmas.Grind.{common_steps}
 use Rattle.std.proofs.lemmas.Bool.Decides.{nat_tests}
-use Rattle.tide_edge.specs.Clocks.{ClockState, clock_after, next_minute}
+use Rattle.tide_edge.specs.Clocks.{ClockState, clock_after}
 use Rattle.tide_edge.specs.Doors.{Connection, ListenerState, DoorState, after_next, closed, connections_of, door_after_close, door_after_next}
 use Rattle.tide_edge.specs.Faults.{counted, faults_after}
 use Rattle.tide_edge.specs.FileStates.{as_list}
 use Rattle.tide_server.specs.declared.outage.Outage.{Outage}
 use Rattle.tide_server.specs.declared.outage.Outage.TheVariants as outages
 use Rattle.tide_server.specs.declared.served_data.ServedData.{ServedData}
-use Rattle.tide_server.specs.Conversations.{AreNext, AreServed, HasServed, IsServed, after_minutes, is_cut}
+use Rattle.tide_server.specs.Conversations.{AreServed, HasServed, IsServed, after_minutes, is_cut}
 use Rattle.tide_server.specs.Serving.{Exchange, RoseBy, clock_failed, has_byte}
-use Rattle.tide_server.specs.Workings.Connections.{IsNextMinute, Went, clock_given, with_latest}
+use Rattle.tide_server.specs.Workings.Connections.{Went, clock_given, with_latest}
 use Rattle.tide_server.specs.Workings.Steps.{IsKept, Serves, StepBy, door_with, is_clock, is_door, serving}
 
 -- the next connection was accepted, and then answered or left
@@ -31,71 +31,56 @@ went_next failed served_data first now after clock clock_now is went = record {
 
 pub none_kept : (before : Exchange) → IsKept false false before before
 none_kept before = record {
-  is_observable = refl;
-  pieces = refl;
-  requests = refl;
+  door_contents = refl;
   faults = refl;
-  returned_minutes = before.clock.returned_minutes;
   readings = before.clock.readings;
   clock = refl;
 }
 
-with_counts : ClockState → List ℤ → ℕ → ℕ → ClockState
-with_counts clock returned_minutes readings faults = record clock { returned_minutes = returned_minutes; readings = readings; faults = faults }
+with_readings : ClockState → List (Option ℤ) → ℕ → ClockState
+with_readings clock readings faults = record clock { readings = readings; faults = faults }
 
-clock_asked : (minute : Option ℤ) (before now after : ClockState) (returned_minutes : List ℤ) (readings : ℕ)
-    → now ≡ with_counts before returned_minutes readings before.faults → after ≡ clock_given minute now
-    → (more : List ℤ) × (count : ℕ) × (after ≡ with_counts before more count before.faults)
-unfolding with_counts
-clock_asked (Some minute) before now after returned_minutes readings so_far is =
-    (returned_minutes ++ minute ∷ [], counted readings, is ∙ ap (clock_after (Ok minute)) so_far)
-clock_asked None before now after returned_minutes readings so_far is = (returned_minutes, readings, is ∙ so_far)
+clock_asked : (minute : Option ℤ) (before now after : ClockState) (readings : List (Option ℤ))
+    → now ≡ with_readings before readings before.faults → after ≡ clock_given minute now
+    → (more : List (Option ℤ)) × (after ≡ with_readings before more before.faults)
+unfolding with_readings
+clock_asked (Some minute) before now after readings so_far is =
+    (readings ++ Some minute ∷ [], is ∙ ap (clock_after (Ok minute)) so_far)
+clock_asked None before now after readings so_far is = (readings, is ∙ so_far)
 
 pub kept_on : (served_data : ServedData) (before now after : Exchange) → IsKept false false before now
     → StepBy (Ok true) served_data now after → IsKept false false before after
-unfolding with_counts
+unfolding with_readings
 kept_on served_data before now after kept step =
-    let clock = clock_asked step.ended.0 before.clock now.clock after.clock kept.returned_minutes kept.readings kept.clock step.ended.1 in record {
-      is_observable = ap (λ d. d.is_observable) step.door ∙ kept.is_observable;
-      pieces = ap (λ d. d.keeps_pieces) step.door ∙ kept.pieces;
-      requests = ap (λ d. d.requests) step.door ∙ kept.requests;
+    let clock = clock_asked step.ended.0 before.clock now.clock after.clock kept.readings kept.clock step.ended.1 in record {
+      door_contents = ap (λ d. d.door_contents) step.door ∙ kept.door_contents;
       faults = ap (λ d. d.faults) step.door ∙ kept.faults;
-      returned_minutes = clock.0;
-      readings = clock.1;
-      clock = clock.2;
+      readings = clock.0;
+      clock = clock.1;
     }
 
 kept_over : (served_data : ServedData) (before now after : Exchange) → IsKept false false before now
     → StepBy (Ok false) served_data now after → IsKept false false before after
 kept_over served_data before now after kept step = record {
-  is_observable = ap (λ d. d.is_observable) step.0 ∙ kept.is_observable;
-  pieces = ap (λ d. d.keeps_pieces) step.0 ∙ kept.pieces;
-  requests = ap (λ d. d.requests) step.0 ∙ kept.requests;
+  door_contents = ap (λ d. d.door_contents) step.0 ∙ kept.door_contents;
   faults = ap (λ d. d.faults) step.0 ∙ kept.faults;
-  returned_minutes = kept.returned_minutes;
   readings = kept.readings;
   clock = step.1 ∙ kept.clock;
 }
 
 kept_by : (served_data : ServedData) (outage : Outage) (before now after : Exchange) → IsKept false false before now
     → StepBy (Err outage) served_data now after → IsKept (is_door outage) (is_clock outage) before after
-unfolding with_counts
+unfolding with_readings
 kept_by served_data outages.Door before now after kept step = record {
-  is_observable = ap (λ d. d.is_observable) step.0 ∙ kept.is_observable;
-  pieces = ap (λ d. d.keeps_pieces) step.0 ∙ kept.pieces;
-  requests = ap (λ d. d.requests) step.0 ∙ kept.requests;
+  door_contents = ap (λ d. d.door_contents) step.0 ∙ kept.door_contents;
   faults = ap (λ d. d.faults) step.0 ∙ ap counted kept.faults;
-  returned_minutes = kept.returned_minutes;
   readings = kept.readings;
   clock = step.1 ∙ kept.clock;
 }
 kept_by served_data outages.Clock before now after kept step = record {
-  is_observable = ap (λ d. d.is_observable) step.door ∙ kept.is_observable;
-  pieces = ap (λ d. d.keeps_pieces) step.door ∙ kept.pieces;
-  requests = ap (λ d. d.requests) step.door ∙ kept.requests;
+  door_contents = ap (λ d. d.door_contents) step.door ∙ kept.door_contents;
   faults = ap (λ d. d.faults) step.door ∙ kept.faults;
-  returned_minutes = kept.returned_minutes;
-  readings = counted kept.readings;
+  readings = kept.readings ++ None ∷ [];
   clock = step.ended.0 ∙ ap clock_failed kept.clock;
 }
 
@@ -122,7 +107,7 @@ rose_by more before now after true rose is =
 pub none_passed : (served_data : ServedData) (has_failed : Bool) (before after : Exchange)
     → after.door.connections ≡ before.door.connections → after.door.line_faults ≡ before.door.line_faults
     → after.clock ≡ before.clock → after.door.listener_state.accepted ≡ 0 → HasServed served_data has_failed before after
-unfolding AreServed AreNext after_minutes
+unfolding AreServed after_minutes
 none_passed served_data has_failed before after connections lines clock none = record {
   over = [];
   left = None;
@@ -134,7 +119,6 @@ none_passed served_data has_failed before after connections lines clock none = r
   counted = none;
   cut = inl (omega (arith, lines));
   clock = clock;
-  next = λ k. tt;
   served = refl;
   last = tt;
   ends = λ is. absurd (cc);
@@ -153,7 +137,6 @@ record HavePassed (served_data : ServedData) (before after : Exchange) : Type 0 
   counted : after.door.listener_state.accepted ≡ length over
   cut : RoseBy (count_by is_cut over) before.door.line_faults after.door.line_faults
   clock : after.clock ≡ after_minutes minutes before.clock
-  next : IsTrue before.clock.is_observable → AreNext before.clock minutes
   served : AreServed served_data over minutes
 
 have_passed : (served_data : ServedData) (before after : Exchange) → HasServed served_data false before after
@@ -167,7 +150,6 @@ have_passed served_data before after s =
       counted = omega (arith, counted);
       cut = s.cut;
       clock = rw none at s.clock;
-      next = s.next;
       served = s.served;
     }
 
@@ -196,18 +178,6 @@ unfolding after_minutes
 given_more None [] clock = refl
 given_more (Some m) [] clock = refl
 given_more minute (first ∷ more) clock = given_more minute more (clock_after (Ok first) clock)
-
-next_more : (minute : Option ℤ) (minutes : List ℤ) (clock : ClockState) → AreNext clock minutes
-    → IsNextMinute minute (next_minute (after_minutes minutes clock)) → AreNext clock (minutes ++ as_list minute)
-unfolding AreNext after_minutes
-next_more None [] clock are next = tt
-next_more (Some m) [] clock are next = (next, tt)
-next_more minute (first ∷ more) clock are next = (are.0, next_more minute more (clock_after (Ok first) clock) are.1 next)
-
-still_observable : (minutes : List ℤ) (clock : ClockState) → (after_minutes minutes clock).is_observable ≡ clock.is_observable
-unfolding after_minutes
-still_observable [] clock = refl
-still_observable (first ∷ more) clock = still_observable more (clock_after (Ok first) clock)
 
 cut_on : (c : Connection) (over : List Connection) (before now after : ℕ) → RoseBy (count_by is_cut over) before now
     → after ≡ faults_after (is_cut c) now → RoseBy (count_by is_cut (over ++ c ∷ [])) before after
@@ -251,13 +221,7 @@ passed_on served_data before now after passed few step =
           cut_on c so_far.over before.door.line_faults now.door.line_faults after.door.line_faults so_far.cut
           (ap (λ d. d.line_faults) step.door);
       clock = step.ended.1 ∙ ap (clock_given minute) so_far.clock ∙ given_more minute so_far.minutes before.clock;
-      next = λ k.
-          let still : IsTrue now.clock.is_observable =
-          subst (λ (b : Bool). IsTrue b)
-          (sym (ap (λ clock. clock.is_observable) so_far.clock ∙ still_observable so_far.minutes before.clock)) k in
-          next_more minute so_far.minutes before.clock (so_far.next k)
-          (subst (λ (clock : ClockState). IsNextMinute minute (next_minute clock)) so_far.clock (step.ended.2 still));
-      served = served_on served_data so_far.over so_far.minutes c minute so_far.served step.ended.3;
+      served = served_on served_data so_far.over so_far.minutes c minute so_far.served step.ended.2;
       last = tt;
       ends = λ is. absurd (cc);
     }
@@ -279,7 +243,6 @@ passed_still served_data has_failed before now after passed connections lines ac
       counted = omega (arith, accepted, so_far.counted);
       cut = subst (λ (n : ℕ). RoseBy (count_by is_cut so_far.over) before.door.line_faults n) (sym lines) so_far.cut;
       clock = clock ∙ so_far.clock;
-      next = so_far.next;
       served = so_far.served;
       last = tt;
       ends = λ is. absurd (cc);
@@ -311,7 +274,6 @@ left_passed served_data before now after passed few step =
           subst (λ (n : ℕ). RoseBy (count_by is_cut so_far.over) before.door.line_faults n)
           (sym (ap (λ d. d.line_faults) step.door ∙ ap (λ b. faults_after b now.door.line_faults) whole)) so_far.cut;
       clock = step.ended.0 ∙ ap clock_failed so_far.clock;
-      next = so_far.next;
       served = so_far.served;
       last = left;
       ends = λ is. refl;

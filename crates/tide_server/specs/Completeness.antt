@@ -7,7 +7,7 @@ use Rattle.tide_edge.specs.Faults.{Rose}
 use Rattle.tide_fault.specs.declared.status.Status.{Status}
 use Rattle.tide_fault.specs.declared.status.Status.TheVariants.{Done, NoMemory}
 use Rattle.tide_server.specs.declared.served_data.ServedData.{ServedData}
-use Rattle.tide_server.specs.Conversations.{HasServed}
+use Rattle.tide_server.specs.Conversations.{HasServed, ReturnsNext}
 use Rattle.tide_server.specs.Openings.{served_data_of}
 use Rattle.tide_server.specs.Promises.{ServesAs, ServiceStates, Services}
 use Rattle.tide_server.specs.Serving.{IsOver, exchange}
@@ -31,6 +31,7 @@ pub record ServedAll {F D E K : Type 0} (s : ServiceStates F D E K) (served_data
   pub over : IsOver (s.door after.door).listener_state
   pub passed : HasServed served_data false (exchange (s.door before.door) (s.clock before.clock))
       (exchange (s.door after.door) (s.clock after.clock))
+  pub next : ReturnsNext (s.clock before.clock) passed.minutes
 
 -- the server ended with the status `is` before it listened: port and clock are unchanged
 pub record EndedBefore {F D E K : Type 0} (status is : Status) (before after : Services F D E K) : Type 0 where

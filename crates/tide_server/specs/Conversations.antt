@@ -110,6 +110,10 @@ unfoldable pub AreNext : ClockState → List ℤ → Type 0
 AreNext clock [] = Unit {0}
 AreNext clock (minute ∷ more) = (minute ≡ next_minute clock) × AreNext (clock_after (Ok minute) clock) more
 
+-- if the clock is observable, these are the minutes that it returned next
+abbrev pub ReturnsNext : ClockState → List ℤ → Type 0
+ReturnsNext clock minutes = IsTrue clock.is_observable → AreNext clock minutes
+
 -- The connections `over` were served in turn; then `left`, if any, was accepted, but the clock failed
 -- for it and nothing was sent. The clock was read for nothing else. The count of failed reads and writes
 -- grew by the number of connections that were cut short.
@@ -122,7 +126,6 @@ pub record HasServed (served_data : ServedData) (has_failed : Bool) (before afte
   pub cut : RoseBy (count_by is_cut over) before.door.line_faults after.door.line_faults
   pub clock : after.clock
       ≡ (if is_some left then clock_failed (after_minutes minutes before.clock) else after_minutes minutes before.clock)
-  pub next : IsTrue before.clock.is_observable → AreNext before.clock minutes
   pub served : AreServed served_data over minutes
   pub last : IsLast left
   pub ends : IsTrue (is_some left) → IsTrue has_failed

@@ -65,4 +65,4 @@ pub record HasAnswered (served_data : ServedData) (has_failed : Bool) (before af
       × AreAnsweredBut failed served_data before.clock.minute requests replies
   pub last : MayLeave has_failed left
   pub bytes : All (λ request. ¬ (concat request ≡ [])) left
-  pub clock : after.clock.fault_schedule.faults ≡ faults_after (is_left left) before.clock.fault_schedule.faults
+  pub clock : (clock_state after.clock).faults ≡ faults_after (is_left left) (clock_state before.clock).faults

@@ -47,7 +47,7 @@ use Rattle.named_files.specs.declared.run_fault.RunFault.TheVariants.{Faulty}
 use Rattle.named_files.specs.RunFaults.{faulty, status_of, line_of, source_of, is_read_fault}
 use Rattle.named_files.specs.Readings.{Folders, allowed_for, book_named, table_named}
 use Rattle.tide_server.specs.declared.served_data.ServedData.{ServedData}
-use Rattle.tide_server.specs.Conversations.{HasServed}
+use Rattle.tide_server.specs.Conversations.{HasServed, ReturnsNext}
 use Rattle.tide_server.specs.Serving.{Served, exchange}
 
 -- ---- The arguments
@@ -155,13 +155,15 @@ end_line Done = []
 end_line _ = codes "read fault\n"
 
 -- The server listened at its port, said so on standard error, and served connections until there were no
--- more or a fault ended it. `passed` has the bytes of each connection, for any port and clock; `served`
--- has the requests and replies, for a port and a clock that can be observed.
+-- more or a fault ended it. `passed` has the bytes of each connection, for any port and clock; `next` says
+-- which minutes an observable clock returned; `served` has the requests and replies, for a port and a
+-- clock that can be observed.
 pub record HasListened (served_data : ServedData) (status : Status) (before after : ServerStates) : Type 0 where
   pub asked : after.door.listener_state.port ≡ Some served_data.port
   pub ends : (status ≡ Done) ⊎ (status ≡ ReadFault)
   pub passed : HasServed served_data (is_read_fault status) (exchange before.door before.clock) (exchange after.door after.clock)
-  pub served : IsTrue before.door.is_observable → IsTrue before.clock.is_observable
+  pub next : ReturnsNext before.clock passed.minutes
+  pub served : IsTrue before.door.door_contents.is_observable → IsTrue before.clock.is_observable
       → Served served_data (is_read_fault status) (exchange before.door before.clock) (exchange after.door after.clock)
   pub wrote : WroteBoth before.err after.err (notice_at served_data.port after.door.listener_state) (end_line status)
 
@@ -187,12 +189,9 @@ pub record EndedBy (has_failed : Bool) (before after : ServerStates) : Type 0 wh
   pub files_count : after.files.faults ≡ faults_after files before.files.faults
   pub files_first : IsTrue files → after.door.listener_state.port ≡ None
   pub door_count : after.door.faults ≡ faults_after door before.door.faults
-  pub door_observable : after.door.is_observable ≡ before.door.is_observable
-  pub door_pieces : after.door.keeps_pieces ≡ before.door.keeps_pieces
-  pub door_requests : after.door.requests ≡ before.door.requests
-  pub returned_minutes : List ℤ
-  pub readings : ℕ
-  pub clock_state : after.clock ≡ record before.clock { returned_minutes = returned_minutes; readings = readings; faults = faults_after clock before.clock.faults }
+  pub door_contents : after.door.door_contents ≡ before.door.door_contents
+  pub readings : List (Option ℤ)
+  pub clock_state : after.clock ≡ record before.clock { readings = readings; faults = faults_after clock before.clock.faults }
 
 -- ---- The whole objects
 

@@ -87,7 +87,7 @@ clock_with is_asked clock = if is_asked then clock_after (Ok (next_minute clock)
 
 -- the state of the clock after a reading that failed
 abbrev pub clock_failed : ClockState → ClockState
-clock_failed clock = record clock { readings = counted clock.readings; faults = counted clock.faults }
+clock_failed clock = record clock { readings = clock.readings ++ None ∷ []; faults = counted clock.faults }
 
 -- the state of the clock after these connections, for each of which it was read once or not at all
 unfoldable pub clock_after_all : List Conversation → ClockState → ClockState
@@ -166,9 +166,9 @@ pub record Served (served_data : ServedData) (has_failed : Bool) (before after :
   pub replies : replies_of after.door ≡ replies_of before.door ++ map (λ c. c.reply) served ++ map (λ request. []) left
   pub counted : after.door.listener_state.accepted ≡ length served + length left
   pub held : AreHeld served_data before.clock served
-  pub read : IsTrue before.door.keeps_pieces
+  pub read : IsTrue before.door.door_contents.keeps_pieces
       → IsLastReadAsNeeded (map (λ c. c.request) served ++ left)
-      (unread_of after.door.requests (connections_of after.door.connections))
+      (unread_of after.door.door_contents.requests (connections_of after.door.connections))
   pub cut : RoseBy (count_by (λ c. c.is_cut) served) before.door.line_faults after.door.line_faults
   pub clock : after.clock ≡ clock_at_end left (clock_after_all served before.clock)
   pub last : MayLeave has_failed left

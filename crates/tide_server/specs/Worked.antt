@@ -43,7 +43,7 @@ in_memory = service_states files_state door_state sink_state clock_state
 -- connects, an empty standard error, and a clock at 2000-01-10T03:00Z
 abbrev pub pier : Services HeldFiles HeldDoor HeldSink HeldClock
 pier = services pier_files quiet_door (record { accepted = []; most = 10; capacity = 1000; fault_schedule = no_calls })
-    (record { minute = pos 15791220; returned_minutes = []; fault_schedule = no_calls })
+    (record { minute = pos 15791220; fails = []; readings = 0 })
 
 -- the command line `serve file=f`
 abbrev pub pier_words : List (List ℕ)

@@ -1,12 +1,13 @@
 //! A server with a clock that advances, and one with a long reply.
 
+ghost use Rattle.std.specs.Prelude.{◌≡◌, length, min};
+
 use super::coming::Coming;
 use super::serving::{ASKED, NONE, Outcome, assert_done, serve_by, serve_over};
 use crate::asserts::{assert_count, assert_holds};
 use ghost_log::Log;
 use std::alloc::Global;
 use std::process::Abort;
-use std::slice;
 use std::test::Fail;
 use tide_edge::{Clock, Failed};
 
@@ -16,28 +17,30 @@ const HOURS: u64 = 24;
 /// An observable clock that advances by an hour at each reading, from 2000-01-10T03:00Z on.
 #[derive(Debug, Drop)]
 struct HourClock {
-    readings: u64,
-    returned_minutes: Log<i64>,
+    hours: u64,
+    readings: Log<()>,
+    ghost counted: { hours ≡ min (length readings.items) 24 },
 }
 
 impl Clock for HourClock {
-    ghost use Rattle.std.specs.Prelude.{◌≡◌, ◌+◌, ◌*◌, true, min, pos};
-    ghost use Rattle.tide_edge.specs.Clocks.{ClockState};
+    ghost use Rattle.std.specs.Prelude.{◌≡◌, ◌+◌, ◌*◌, true, false, length, min, pos};
+    ghost use Rattle.tide_edge.specs.Clocks.{ClockState, held_readings};
+    ghost use Rattle.tide_edge.specs.Workings.HeldClocks.{held_lawful};
 
     ghost state = { λ c. record {
       is_observable = true;
-      minute_at = (λ n. pos (15791160 + 60 * min n 24));
-      returned_minutes = c.returned_minutes.items;
-      readings = c.readings;
+      minute_at = (λ n. pos (15791160 + 60 * min (n + 1) 24));
+      fails_at = (λ n. false);
+      readings = held_readings (λ n. pos (15791160 + 60 * min (n + 1) 24)) (λ n. false) (length c.readings.items);
       faults = 0;
     } };
 
+    ghost lawful = { λ c _. held_lawful _ _ (length c.readings.items) };
+
     fn minute(&mut self) -> Result<i64, Failed> {
-        self.readings = self.readings.saturating_add(1);
-        let hours = self.readings.min(HOURS);
-        let minute = 15_791_160 + 60 * hours as i64;
-        self.returned_minutes = self.returned_minutes.then(slice::from_ref(&minute));
-        Ok(minute)
+        self.hours = (self.hours + 1).min(HOURS);
+        self.readings = self.readings.then(&[()]);
+        Ok(15_791_160 + 60 * self.hours as i64)
     }
 }
 
@@ -66,8 +69,8 @@ fn each_request_is_answered_at_its_own_minute(rt: HostRuntime) -> Result<(), Fai
     let alloc = rt.alloc();
     let requests = [Coming::Whole(NOW), Coming::Whole(""), Coming::Whole(NOW)];
     let mut clock = HourClock {
-        readings: 0,
-        returned_minutes: Log::new(),
+        hours: 0,
+        readings: Log::new(),
     };
     let outcome = serve_by(alloc, ASKED, &requests, 4096, NONE, &mut clock)?;
     assert_done(&rt, &outcome, ASKED);

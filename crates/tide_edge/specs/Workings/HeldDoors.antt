@@ -98,7 +98,7 @@ are_prop keeps_pieces (request ∷ requests) (c ∷ more) =
     hlevel (props, of_prop keeps_pieces request c, are_prop keeps_pieces requests more)
 
 one_law : (d : DoorState) → IsProp (IsOfRequests d)
-one_law d = hlevel (props, are_prop d.keeps_pieces d.requests (connections_of d.connections))
+one_law d = hlevel (props, are_prop d.door_contents.keeps_pieces d.door_contents.requests (connections_of d.connections))
 
 pub lawful_by : (contents : HeldDoor) → ∥ IsTiedDoor contents ∥₁ → IsOfRequests (door_state contents)
 lawful_by contents tied = ∥∥₁_elim tied (one_law (door_state contents)) (lawful_of contents)

@@ -7,8 +7,8 @@ use Rattle.std.proofs.lemmas.List.{nil_from_length}
 use Rattle.std.proofs.lemmas.List.Elements.{All-append, All-cons, All-nil}
 use Rattle.tide_edge.specs.declared.failed.Failed.{Failed}
 use Rattle.tide_edge.specs.FaultSchedule.{answer, is_to_fail}
-use Rattle.tide_edge.specs.FileStates.{FilesState, Opening, FileContents, begun, files_after_open, files_after_read, just_opened, as_list, opening_after_failure, opening_after_read}
-use Rattle.tide_edge.specs.Memory.{FileCall, FilesNow, HeldFiles, Open, Read, after_file_call, before_calls, files_now, files_state, folder_of, open_result, read_result}
+use Rattle.tide_edge.specs.FileStates.{FilesState, Opening, FileContents, IsNoneOpen, begun, files_after_open, files_after_read, just_opened, as_list, opening_after_failure, opening_after_read}
+use Rattle.tide_edge.specs.Memory.{FileCall, FilesNow, HeldFiles, Open, Read, after_file_call, before_calls, files_state, folder_of, open_result, read_result}
 use Rattle.tide_edge.specs.StoreLaws.{AreOfStore, IsLawful, IsOfStore, IsReadOf}
 
 never : {G : Type 0} → false ≡ true → G
@@ -50,7 +50,7 @@ chosen : (b : Bool) (first second : List ℕ) → IsTrue b → (if b then first 
 chosen true first second t = refl
 chosen false first second t = never t
 
-pub open_keeps : (s : FilesState) (result : Result (Unit {0}) Failed) (name : List ℕ) → IsTrue s.file_contents.is_observable
+open_keeps : (s : FilesState) (result : Result (Unit {0}) Failed) (name : List ℕ) → IsTrue s.file_contents.is_observable
     → OnOk result (IsSome (s.file_contents.folder name))
     → (IsTrue s.file_contents.is_steady → OnErr result (s.file_contents.folder name ≡ None))
     → AreOfStore s → AreOfStore (files_after_open result name s)
@@ -58,6 +58,7 @@ open_keeps s result name t found absent of = record {
   earlier = All-append (IsOfStore s.file_contents) s.open_log.earlier (as_list s.open_log.latest) of.earlier
       (listed_read s.file_contents s.unread_bytes s.open_log.latest of.latest);
   latest = rw (chosen s.file_contents.is_observable (begun result (s.file_contents.folder name)) s.unread_bytes t) (just_read s.file_contents name result found absent);
+  unopened = λ none. absurd cc;
 }
 
 drop_none : (count : ℕ) → drop {A = ℕ} count [] ≡ []
@@ -93,16 +94,38 @@ latest_failed file_contents unread_bytes None unsteady is = tt
 latest_failed file_contents unread_bytes (Some o) unsteady is =
     record { prefix = is.prefix; whole = is.whole; exists = is.exists; absent = is.absent; steady = λ s. absurd (unsteady s) }
 
-pub read_keeps : (s : FilesState) (result : Result ℕ Failed) → IsTrue s.file_contents.is_observable
+unmapped : (change : Opening → Opening) (latest : Option Opening) → option_map change latest ≡ None → latest ≡ None
+unmapped change None none = refl
+unmapped change (Some o) none = absurd cc
+
+read_keeps : (s : FilesState) (result : Result ℕ Failed) → IsTrue s.file_contents.is_observable
     → IfOk result (λ count. count ≡ 0 → s.unread_bytes ≡ []) → (IsTrue s.file_contents.is_steady → IsOk result)
     → AreOfStore s → AreOfStore (files_after_read result s.unread_bytes s)
 read_keeps s (Ok count) t end reads of = record {
   earlier = of.earlier;
   latest = rw (chosen s.file_contents.is_observable (drop count s.unread_bytes) s.unread_bytes t)
       (latest_read_on s.file_contents s.unread_bytes count s.open_log.latest end of.latest);
+  unopened = λ none. let before = of.unopened (unmapped (opening_after_read count s.unread_bytes) s.open_log.latest none) in
+      (rw (chosen s.file_contents.is_observable (drop count s.unread_bytes) s.unread_bytes t, before.0) (drop_none count), before.1);
 }
-read_keeps s (Err failed) t end reads of =
-    record { earlier = of.earlier; latest = latest_failed s.file_contents s.unread_bytes s.open_log.latest (λ steady. never (reads steady)) of.latest }
+read_keeps s (Err failed) t end reads of = record {
+  earlier = of.earlier;
+  latest = latest_failed s.file_contents s.unread_bytes s.open_log.latest (λ steady. never (reads steady)) of.latest;
+  unopened = λ none. ((of.unopened (unmapped opening_after_failure s.open_log.latest none)).0, λ steady. never (reads steady));
+}
+
+nothing_left : (bytes left : List ℕ) → [] ≡ bytes ++ left → left ≡ []
+nothing_left [] left is = sym is
+nothing_left (byte ∷ bytes) left is = absurd cc
+
+none_unread : (file_contents : FileContents) (unread_bytes : List ℕ) (latest : Option Opening) → (latest ≡ None → unread_bytes ≡ [])
+    → IfSome latest (λ o. IsReadOf file_contents unread_bytes o) → IfSome latest (λ o. o.is_open ≡ false) → unread_bytes ≡ []
+none_unread file_contents unread_bytes None unopened is none = unopened refl
+none_unread file_contents unread_bytes (Some o) unopened is none = nothing_left o.bytes unread_bytes (rw none at is.prefix)
+
+-- no byte is unread if no file is open
+pub none_left : (s : FilesState) → AreOfStore s → IsNoneOpen s.open_log → s.unread_bytes ≡ []
+none_left s of none = none_unread s.file_contents s.unread_bytes s.open_log.latest (λ is. (of.unopened is).0) of.latest none
 
 -- ---- The results of calls on files in memory
 
@@ -110,7 +133,7 @@ read_keeps s (Err failed) t end reads of =
 abbrev IsSafe : FilesNow → Type 0
 IsSafe now = IsTrue now.state.file_contents.is_steady → now.fault_schedule.fails ≡ []
 
-pub safe_call : (now : FilesNow) → IsSafe now → IsTrue now.state.file_contents.is_steady → is_to_fail now.fault_schedule ≡ false
+safe_call : (now : FilesNow) → IsSafe now → IsTrue now.state.file_contents.is_steady → is_to_fail now.fault_schedule ≡ false
 safe_call now safe steady = rw (safe steady) refl
 
 found_by : (failed : Bool) (file : Option (List ℕ))
@@ -126,12 +149,12 @@ absent_by false None is = refl
 absent_by false (Some bytes) is = tt
 
 -- If the next `open` of `name` succeeds, the file exists.
-pub opened_exists : (now : FilesNow) (name : List ℕ) → OnOk (open_result now name) (IsSome (now.state.file_contents.folder name))
+opened_exists : (now : FilesNow) (name : List ℕ) → OnOk (open_result now name) (IsSome (now.state.file_contents.folder name))
 opened_exists now name = found_by (is_to_fail now.fault_schedule) (now.state.file_contents.folder name)
 
 -- If the next `open` of `name` fails and the files are steady (calls on existing files never fail),
 -- there is no such file.
-pub unopened_absent : (now : FilesNow) (name : List ℕ) → IsSafe now → IsTrue now.state.file_contents.is_steady
+unopened_absent : (now : FilesNow) (name : List ℕ) → IsSafe now → IsTrue now.state.file_contents.is_steady
     → OnErr (open_result now name) (now.state.file_contents.folder name ≡ None)
 unopened_absent now name safe steady = absent_by (is_to_fail now.fault_schedule) (now.state.file_contents.folder name) (safe_call now safe steady)
 
@@ -144,7 +167,7 @@ end_by : (failed : Bool) (more : ℕ) (unread_bytes : List ℕ)
 end_by true more unread_bytes = tt
 end_by false more unread_bytes = min_none more unread_bytes
 
-pub reads_by : (failed : Bool) (count : ℕ) → failed ≡ false → IsOk (answer failed count)
+reads_by : (failed : Bool) (count : ℕ) → failed ≡ false → IsOk (answer failed count)
 reads_by true count is = never (sym is)
 reads_by false count is = refl
 
@@ -161,12 +184,6 @@ kept_store now (Open name ∷ more) = kept_store (after_file_call now (Open name
 kept_store now (Read n ∷ more) =
     kept_store (after_file_call now (Read n)) more ∙ call_store (read_result now (n + 1)) now.state.unread_bytes now.state
 
--- No call on files in memory changes which calls are to fail.
-pub kept_fails : (now : FilesNow) (calls : List FileCall) → (fold after_file_call now calls).fault_schedule.fails ≡ now.fault_schedule.fails
-kept_fails now [] = refl
-kept_fails now (Open name ∷ more) = kept_fails (after_file_call now (Open name)) more
-kept_fails now (Read n ∷ more) = kept_fails (after_file_call now (Read n)) more
-
 -- The part of the state of files in memory that no call changes: contracts know the contents
 -- (`is_observable`), and the files are steady (calls on existing files never fail) if no call is to
 -- fail.
@@ -176,11 +193,6 @@ memory_store contents = kept_store (before_calls contents) contents.history
 
 safe_by : (fails : List ℕ) → (length fails == 0) ≡ true → fails ≡ []
 safe_by fails is = nil_from_length fails ((Decides-eqb (length fails) 0).0 is)
-
-pub safe_now : (contents : HeldFiles) → IsSafe (files_now contents)
-safe_now contents steady =
-    kept_fails (before_calls contents) contents.history
-    ∙ safe_by contents.fails (rw (kept_store (before_calls contents) contents.history) at steady)
 
 lawful_from : (now : FilesNow) (calls : List FileCall) → IsTrue now.state.file_contents.is_observable → IsSafe now
     → AreOfStore now.state → AreOfStore (fold after_file_call now calls).state
@@ -195,7 +207,10 @@ lawful_from now (Read n ∷ more) t safe of =
     (read_keeps now.state (read_result now (n + 1)) t (end_by (is_to_fail now.fault_schedule) n now.state.unread_bytes)
     (λ steady. reads_by (is_to_fail now.fault_schedule) (min (n + 1) (length now.state.unread_bytes)) (safe_call now safe steady)) of)
 
-pub memory_lawful : (contents : HeldFiles) → IsLawful (files_state contents)
-memory_lawful contents observable =
+pub memory_of : (contents : HeldFiles) → AreOfStore (files_state contents)
+memory_of contents =
     lawful_from (before_calls contents) contents.history refl (λ steady. safe_by contents.fails steady)
-    (record { earlier = All-nil (IsOfStore (before_calls contents).state.file_contents); latest = tt })
+    (record { earlier = All-nil (IsOfStore (before_calls contents).state.file_contents); latest = tt; unopened = λ _. (refl, λ _. refl) })
+
+pub memory_lawful : (contents : HeldFiles) → IsLawful (files_state contents)
+memory_lawful contents observable = memory_of contents

@@ -1,6 +1,6 @@
 -- The bytes that are read and sent over a connection.
-use Rattle.std.specs.Prelude.{◌≡◌, ◌<◌, ◌⊎◌, ℕ, ℤ, Bool, true, false, IsTrue, List, [], ◌++◌, length, take, Option, Some, None, Ok}
-use Rattle.tide_edge.specs.Clocks.{ClockState, clock_after, next_minute}
+use Rattle.std.specs.Prelude.{◌≡◌, ◌<◌, ◌⊎◌, ℕ, ℤ, Bool, true, false, List, [], ◌++◌, length, take, Option, Some, None, Ok}
+use Rattle.tide_edge.specs.Clocks.{ClockState, clock_after}
 use Rattle.tide_edge.specs.Doors.{Connection, DoorState, change_latest}
 use Rattle.tide_edge.specs.Faults.{faults_after}
 use Rattle.tide_server.specs.declared.served_data.ServedData.{ServedData}
@@ -64,8 +64,7 @@ Replies served_data minute row text =
 -- or, if the Bool, whether the clock failed, is true, nothing was sent.
 abbrev pub RowSent : Bool → ServedData → ReplyRow → DoorState → DoorState → ClockState → ClockState → Type 0
 RowSent false served_data row door door_after clock clock_now =
-    (text : List ℕ) × (failed : Bool) × (minute : ℤ)
-    × (IsTrue clock.is_observable → minute ≡ next_minute clock) × Replies served_data minute row text
+    (text : List ℕ) × (failed : Bool) × (minute : ℤ) × Replies served_data minute row text
     × SentBy failed text door door_after × (clock_now ≡ clock_after (Ok minute) clock)
 RowSent true served_data row door door_after clock clock_now = (door_after ≡ door) × (clock_now ≡ clock_failed clock)
 
@@ -85,8 +84,7 @@ IsNextMinute (Some minute) next = minute ≡ next
 -- true, nothing was sent over it
 abbrev pub HasEnded : Bool → ServedData → Connection → ClockState → ClockState → Type 0
 HasEnded false served_data c clock after =
-    (minute : Option ℤ) × (after ≡ clock_given minute clock)
-    × (IsTrue clock.is_observable → IsNextMinute minute (next_minute clock)) × IsServed served_data c minute
+    (minute : Option ℤ) × (after ≡ clock_given minute clock) × IsServed served_data c minute
 HasEnded true served_data c clock after = (after ≡ clock_failed clock) × IsLeft c
 
 -- The port is in the state that `ends` gives for a connection, which was answered, or, if `failed`, got

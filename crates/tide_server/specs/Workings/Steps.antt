@@ -1,5 +1,5 @@
 -- One connection after the other, a step at a time.
-use Rattle.std.specs.Prelude.{◌≡◌, ℕ, ℤ, Bool, true, false, OnOk, List, Some, Result, Ok, Err, is_err}
+use Rattle.std.specs.Prelude.{◌≡◌, ℕ, ℤ, Bool, true, false, OnOk, List, Option, Some, Result, Ok, Err, is_err}
 use Rattle.tide_edge.specs.Doors.{Connection, ListenerState, DoorState, door_after_close, door_after_next}
 use Rattle.tide_edge.specs.Faults.{counted, faults_after}
 use Rattle.tide_server.specs.declared.outage.Outage.{Outage}
@@ -53,16 +53,13 @@ StepBy (Err outages.Clock) served_data before after = Went true served_data (doo
 abbrev pub serving : ℕ → ℕ → ListenerState
 serving port accepted = record { port = Some port; listens = true; accepted = accepted; is_open = false; is_over = false }
 
--- serving leaves unchanged whether port and clock can be observed, the requests, and the counts of
--- faults, except that they grow by the failures that the Bools name
+-- serving leaves unchanged what no call changes of port and clock, and the counts of faults, except that
+-- they grow by the failures that the Bools name
 pub record IsKept (door_failed clock_failed : Bool) (before after : Exchange) : Type 0 where
-  pub is_observable : after.door.is_observable ≡ before.door.is_observable
-  pub pieces : after.door.keeps_pieces ≡ before.door.keeps_pieces
-  pub requests : after.door.requests ≡ before.door.requests
+  pub door_contents : after.door.door_contents ≡ before.door.door_contents
   pub faults : after.door.faults ≡ faults_after door_failed before.door.faults
-  pub returned_minutes : List ℤ
-  pub readings : ℕ
-  pub clock : after.clock ≡ record before.clock { returned_minutes = returned_minutes; readings = readings; faults = faults_after clock_failed before.clock.faults }
+  pub readings : List (Option ℤ)
+  pub clock : after.clock ≡ record before.clock { readings = readings; faults = faults_after clock_failed before.clock.faults }
 
 -- a port that listens served its connections, until there were no more or until the failure in `result`
 pub record Serves (served_data : ServedData) (result : Result (Unit {0}) Outage) (before after : Exchange) : Type 0 where

@@ -1,4 +1,4 @@
-use Rattle.std.proofs.Common.{◌≡◌, ◌∙◌, true, false, Err, refl, sym, rules, w64, FitsSigned}
+use Rattle.std.proofs.Common.{◌≡◌, true, false, Err, refl, rules, w64, FitsSigned}
 use Rattle.named_files.specs.declared.run_fault.RunFault.TheVariants.{Unread}
 use Rattle.std.specs.Bool.{IsTrue}
 use Rattle.std.specs.Prelude.{pos}
@@ -7,13 +7,13 @@ use Rattle.named_files.specs.Readings.{files_allowed}
 use Rattle.named_files.proofs.ReadingLemmas.{failed_at, meets_inside}
 use Rattle.tide_desk.specs.Answers.{reads_clock}
 use Rattle.tide_desk.specs.Outcomes.{sources}
-use Rattle.tide_desk.proofs.AnsweringLemmas.{clock_rose, last_read, last_unread, shown_read, shown_unread, went_asking, went_reading}
+use Rattle.tide_desk.proofs.AnsweringLemmas.{last_read, last_unread, shown_read, shown_unread, went_asking, went_reading}
 use Rattle.tide_desk.proofs.SettledLemmas.{never}
 use Rattle.tide_desk.proofs.answering.answer_over.Goals as goal
 
 pub returns-in_err-read-clause-shown : goal.returns-in_err-read-clause-shown
-returns-in_err-read-clause-shown g c =
-    shown_unread _ _ c.args.question.now c.args.name.now
+returns-in_err-read-clause-shown g c = λ given agrees.
+    shown_unread _ given c.args.question.now c.args.name.now
     (g.F.Files.state c.args.files.now).open_log
     (g.F.Files.state c.read_files.new.files).open_log
     _ c.from_residual.result c.from_residual.ensures.1 c.in_err-read.ensures.opened
@@ -31,13 +31,13 @@ returns-in_err-read-clause-last g c =
     (g.K.Clock.state c.args.clock.now) _ c.from_residual.result refl c.from_residual.ensures.1 c.in_err-read.ensures.opened
 
 pub returns-in-Err-clause-shown : goal.returns-in-Err-clause-shown
-returns-in-Err-clause-shown g c =
-    let given = rw c.in-Err.ensures.unread at c.in-Err.ensures.given in
+returns-in-Err-clause-shown g c = λ given agrees.
+    let missing = rw c.in-Err.ensures.unread at c.in-Err.ensures.given given agrees in
     rw c.in-Err.ensures.unread
-    (shown_read _ _ c.args.question.now c.args.name.now
+    (shown_read _ given c.args.question.now c.args.name.now
     (g.F.Files.state c.args.files.now).open_log
     (g.F.Files.state c.read_files.new.files).open_log
-    c.in_ok-read.read (Err Unread) refl (λ firm. rw given (λ f. refl)) c.in_ok-read.ensures.opened)
+    c.in_ok-read.read (Err Unread) refl (λ firm. rw missing (λ f. refl)) c.in_ok-read.ensures.opened)
 
 pub returns-in-Err-clause-reads : goal.returns-in-Err-clause-reads
 returns-in-Err-clause-reads g c =
@@ -54,20 +54,17 @@ returns-in-Err-clause-last g c =
     (sources (g.F.Files.state c.args.files.now) (g.K.Clock.state c.args.clock.now))
     (sources (g.F.Files.state c.read_files.new.files) (g.K.Clock.state c.read_minute.new.clock))
     c.in_ok-read.read (Err Unread) c.in_ok-read.ensures.opened
-    (λ asks settled. never settled)
-    (λ failed. clock_rose (reads_clock c.args.question.now.command) (record {}) (g.K.Clock.state c.args.clock.now)
-    (g.K.Clock.state c.read_minute.new.clock) c.in-Err.ensures.asked c.in-Err.ensures.time)
-    c.in-Err.ensures.minute)
+    (λ asks settled. never settled))
 
 pub returns-in-Ok-clause-shown : goal.returns-in-Ok-clause-shown
-returns-in-Ok-clause-shown g c =
+returns-in-Ok-clause-shown g c = λ given agrees.
     let fits : FitsSigned w64 c.in-Ok.now = search rules in
     let exact = simp to_z-of_z at c.answer_with.ensures.exact in
-    shown_read _ _ c.args.question.now c.args.name.now
+    shown_read _ given c.args.question.now c.args.name.now
     (g.F.Files.state c.args.files.now).open_log
     (g.F.Files.state c.read_files.new.files).open_log
     c.in_ok-read.read c.answer_with.result c.answer_with.ensures.of_no_file
-    (λ firm. rw c.in-Ok.ensures.given (meets_inside (IsTrue firm) _ c.answer_with.result exact)) c.in_ok-read.ensures.opened
+    (λ firm. rw (c.in-Ok.ensures.given given agrees) (meets_inside (IsTrue firm) _ c.answer_with.result exact)) c.in_ok-read.ensures.opened
 
 pub returns-in-Ok-clause-reads : goal.returns-in-Ok-clause-reads
 returns-in-Ok-clause-reads g c =
@@ -84,5 +81,3 @@ returns-in-Ok-clause-last g c =
     (sources (g.F.Files.state c.read_files.new.files) (g.K.Clock.state c.read_minute.new.clock))
     c.in_ok-read.read c.answer_with.result c.in_ok-read.ensures.opened
     (λ asks settled. (c.in-Ok.now, rw asks at c.in-Ok.ensures.time))
-    (λ failed. never (sym c.answer_with.ensures.read ∙ failed))
-    c.in-Ok.ensures.minute

@@ -8,12 +8,12 @@ use Rattle.tide_desk.proofs.SettledLemmas.{nameless_unread, unasked_unsettled}
 use Rattle.tide_desk.proofs.answering.answer_words.Goals as goal
 
 pub returns-in_err-question-clause-shown : goal.returns-in_err-question-clause-shown
-returns-in_err-question-clause-shown g c =
+returns-in_err-question-clause-shown g c = λ given agrees.
     shown_unopened _ _ _
     (g.F.Files.state c.args.files.now).open_log
     (g.F.Files.state c.args.files.now).open_log
     c.from_residual.result refl
-    (λ firm folders. shown_unasked _ _ c.args.words.now _ c.from_residual.result firm folders c.from_residual.ensures.1
+    (λ firm folders. shown_unasked _ given c.args.words.now _ c.from_residual.result firm folders c.from_residual.ensures.1
     c.in_err-question.ensures.exact)
 
 pub returns-in_err-question-clause-reads : goal.returns-in_err-question-clause-reads
@@ -24,16 +24,15 @@ returns-in_err-question-clause-reads g c =
 pub returns-in_err-question-clause-last : goal.returns-in_err-question-clause-last
 returns-in_err-question-clause-last g c =
     last_unopened _ _ _ _ (g.F.Files.state c.args.files.now) (g.K.Clock.state c.args.clock.now) c.from_residual.result refl
-    (failed_at c.from_residual.result _ c.from_residual.ensures.1)
     (λ folders has asks settled. let p = err_from_is_err_and c.from_residual.result c.from_residual.ensures.1 in
     unasked_unsettled _ _ c.in_err-question.ensures.exact asks (rw (p.1, p.2) at settled))
 
 pub returns-in-Some-clause-shown : goal.returns-in-Some-clause-shown
-returns-in-Some-clause-shown g c =
-    shown_named _ _ c.args.words.now c.in_ok-question.question c.in-Some.name
+returns-in-Some-clause-shown g c = λ given agrees.
+    shown_named _ given c.args.words.now c.in_ok-question.question c.in-Some.name
     (g.F.Files.state c.args.files.now).open_log
     (g.F.Files.state c.answer_over-answered.new.files).open_log
-    c.answer_over-answered.result c.in_ok-question.ensures.exact c.in-Some.is (rw c.new-valid.ensures at c.answer_over-answered.ensures.shown)
+    c.answer_over-answered.result c.in_ok-question.ensures.exact c.in-Some.is (rw c.new-valid.ensures at c.answer_over-answered.ensures.shown given agrees)
 
 pub returns-in-Some-clause-reads : goal.returns-in-Some-clause-reads
 returns-in-Some-clause-reads g c =
@@ -58,12 +57,12 @@ returns-in-Some-clause-last g c =
     (rw c.new-valid.ensures at c.answer_over-answered.ensures.last)
 
 pub returns-in-None-clause-shown : goal.returns-in-None-clause-shown
-returns-in-None-clause-shown g c =
+returns-in-None-clause-shown g c = λ given agrees.
     shown_unopened _ _ _
     (g.F.Files.state c.args.files.now).open_log
     (g.F.Files.state c.args.files.now).open_log
     c.answer_without-answered.result refl
-    (λ firm folders. shown_alone _ _ c.args.words.now c.in_ok-question.question c.answer_without-answered.result firm folders
+    (λ firm folders. shown_alone _ given c.args.words.now c.in_ok-question.question c.answer_without-answered.result firm folders
     c.in_ok-question.ensures.exact c.in-None.is
     (rw c.new-valid.ensures at c.answer_without-answered.ensures.exact))
 
@@ -75,6 +74,5 @@ returns-in-None-clause-reads g c =
 pub returns-in-None-clause-last : goal.returns-in-None-clause-last
 returns-in-None-clause-last g c =
     last_unopened _ _ _ _ (g.F.Files.state c.args.files.now) (g.K.Clock.state c.args.clock.now) c.answer_without-answered.result refl
-    c.answer_without-answered.ensures.read
     (λ folders has asks settled.
     nameless_unread folders _ c.in_ok-question.question c.in_ok-question.ensures.exact c.in-None.is has)

@@ -1,7 +1,7 @@
 use Rattle.std.proofs.Common.{Ok, Err, sym}
 use Rattle.tide_desk.specs.Outcomes.{outputs, sources}
 use Rattle.tide_desk.proofs.OwnLemmas.{own_answer, own_last, own_once}
-use Rattle.tide_desk.proofs.ShownLemmas.{shown_answered, shown_refused}
+use Rattle.tide_desk.proofs.ShownLemmas.{first_agrees, shown_answered, shown_refused}
 use Rattle.tide_edge.proofs.WritingLemmas.{put_none}
 use Rattle.tide_desk.proofs.OutcomeLemmas.{ends_own, reported_silent, untouched}
 use Rattle.tide_desk.proofs.SettledLemmas.{settled_reported}
@@ -17,9 +17,10 @@ returns-in-Ok g c =
       shown = shown_answered _ c.args.words.now before after c.in-Ok.reply c.write_reply-status.result
           (outputs (g.O.Sink.state c.args.out.now) (g.E.Sink.state c.args.err.now))
           (outputs (g.O.Sink.state c.write_reply-status.new.out) (g.E.Sink.state c.write_reply-status.new.err))
-          c.in-Ok.ensures.shown (λ expected is. rw is c.write_reply-status.ensures.ends);
+          (c.in-Ok.ensures.shown _ (first_agrees _)) (λ expected is. rw is c.write_reply-status.ensures.ends);
       own_files = λ t k either.
-          rw (own_answer _ c.args.words.now before after (Ok c.in-Ok.reply) _ law file_contents c.in-Ok.ensures.shown c.in-Ok.ensures.last t k)
+          rw (own_answer _ c.args.words.now before after (Ok c.in-Ok.reply) _ law file_contents c.in-Ok.ensures.shown c.in-Ok.ensures.last t
+          _ _ c.in-Ok.ensures.reads (g.met.K.Clock.lawful c.answer_words.new.clock) k)
           c.write_reply-status.ensures.ends;
       reads = rw c.write_reply-status.ensures.read c.in-Ok.ensures.reads;
       unwritten = c.write_reply-status.ensures.unwritten;
@@ -43,10 +44,11 @@ returns-in-Err g c =
     let file_contents = c.in-Err.ensures.reads.read.file_contents in
     record {
       shown = shown_refused _ c.args.words.now before after
-          c.in-Err.none c.report.result unwritten written c.in-Err.ensures.shown quiet c.report.ensures.reported;
+          c.in-Err.none c.report.result unwritten written (c.in-Err.ensures.shown _ (first_agrees _)) quiet c.report.ensures.reported;
       own_files = λ t k either.
           ends_own _ _ c.in-Err.none c.report.result unwritten written
-          (own_answer _ c.args.words.now before after (Err c.in-Err.none) _ law file_contents c.in-Err.ensures.shown c.in-Err.ensures.last t k)
+          (own_answer _ c.args.words.now before after (Err c.in-Err.none) _ law file_contents c.in-Err.ensures.shown c.in-Err.ensures.last t
+          _ _ c.in-Err.ensures.reads (g.met.K.Clock.lawful c.answer_words.new.clock) k)
           either quiet c.report.ensures.reported;
       reads = rw c.report.ensures.read c.in-Err.ensures.reads;
       unwritten = untouched c.report.result c.args.out.now;

@@ -87,7 +87,8 @@ returns-in-Ok-new g c =
     let listened = has_listened _ c.serve_data-status.result
     (unread (g.D.Door.state c.args.door.now) (g.E.Sink.state c.args.err.now) (g.K.Clock.state c.args.clock.now))
     (unread (g.D.Door.state c.serve_data-status.new.door) (g.E.Sink.state c.serve_data-status.new.err)
-    (g.K.Clock.state c.serve_data-status.new.clock)) files left ended (g.met.D.Door.lawful c.serve_data-status.new.door) in record {
+    (g.K.Clock.state c.serve_data-status.new.clock)) files left ended (g.met.D.Door.lawful c.serve_data-status.new.door)
+    (g.met.K.Clock.lawful c.serve_data-status.new.clock) in record {
       shown = shown_ready c.args.words.now _ c.serve_data-status.result before after c.in-Ok.ensures.shown
           (λ expected is. inr (_, is, listened));
       own_files = λ t. inr (

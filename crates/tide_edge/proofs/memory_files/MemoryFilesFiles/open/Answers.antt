@@ -1,6 +1,5 @@
 use Rattle.std.proofs.Common.{◌∙◌, ap, sym, rules}
-use Rattle.tide_edge.specs.Memory.{files_now, files_state}
-use Rattle.tide_edge.specs.Workings.MemoryLaws.{opened_exists, safe_now, unopened_absent}
+use Rattle.tide_edge.specs.Memory.{files_state}
 use Rattle.tide_edge.proofs.MemoryLemmas.{next_open, next_result, open_after}
 use Rattle.tide_edge.proofs.memory_files.MemoryFilesFiles.open.Goals as goal
 
@@ -24,10 +23,3 @@ returns-clause-history c = search rules
 pub returns-clause-after : goal.returns-clause-after
 returns-clause-after c =
     ap files_state (returns-clause-history c) ∙ open_after c.args.self.now c.args.name.now c.result_of.result (returns-clause-answer c)
-
-pub returns-clause-found : goal.returns-clause-found
-returns-clause-found c = rw (returns-clause-answer c) (opened_exists (files_now c.args.self.now) c.args.name.now)
-
-pub returns-clause-absent : goal.returns-clause-absent
-returns-clause-absent c = λ steady.
-    rw (returns-clause-answer c) (unopened_absent (files_now c.args.self.now) c.args.name.now (safe_now c.args.self.now) steady)

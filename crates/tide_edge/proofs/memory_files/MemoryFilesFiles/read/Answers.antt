@@ -1,18 +1,20 @@
-use Rattle.std.proofs.Common.{arith, rules}
-use Rattle.tide_edge.specs.FaultSchedule.{is_to_fail}
-use Rattle.tide_edge.specs.Memory.{files_now}
-use Rattle.tide_edge.specs.Workings.MemoryLaws.{reads_by, safe_call, safe_now}
+use Rattle.std.proofs.Common.{◌≡◌, ◌∙◌, [], ap, arith, length, rules, sym}
+use Rattle.tide_edge.specs.Memory.{files_state}
+use Rattle.tide_edge.specs.Workings.MemoryLaws.{memory_of, none_left}
 use Rattle.tide_edge.proofs.MemoryLemmas.{read_on}
 use Rattle.tide_edge.proofs.memory_files.MemoryFilesFiles.read.Goals as goal
 
 pub returns-in_err-next-clause-answer : goal.returns-in_err-next-clause-answer
 returns-in_err-next-clause-answer c = search rules
 
-pub returns-in_err-next-clause-reads : goal.returns-in_err-next-clause-reads
-returns-in_err-next-clause-reads c = λ steady.
-    rw (returns-in_err-next-clause-answer c)
-    (reads_by (is_to_fail (files_now c.args.self.now).fault_schedule) _
-    (safe_call (files_now c.args.self.now) (safe_now c.args.self.now) steady))
+pub returns-clause-none_open : goal.returns-clause-none_open
+returns-clause-none_open c = λ none.
+    let unread : c.rest_at-unread_bytes.result.now ≡ [] =
+    rw c.deref.ensures.value at c.rest_at-unread_bytes.ensures.unread_bytes
+    ∙ sym c.self.invariant.unread_bytes
+    ∙ ap (λ files. (files_state files).unread_bytes) c.self.view_is
+    ∙ none_left (files_state c.args.self.now) (memory_of c.args.self.now) none in
+    omega (arith, c.min-count.ensures, ap length unread)
 
 pub invariant_of-self-2 : goal.invariant_of-self-2
 invariant_of-self-2 c =
