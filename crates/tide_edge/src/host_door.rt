@@ -1,8 +1,8 @@
 //! A TCP port of the machine.
 
-ghost use Rattle.std.specs.Prelude.{◌≡◌, ◌<◌, ◌≤◌, false, IsTrue, [], length, None, IfOk};
+ghost use Rattle.std.specs.Prelude.{◌≡◌, ◌<◌, ◌≤◌, false, IsTrue, [], length, None, IfOk, IsSome};
 ghost use Rattle.std.specs.Io.KnownBytes.{ReadConsumes, WriteAppends};
-ghost use Rattle.tide_edge.specs.Doors.{IsUntouched, door_after_next, door_after_read, door_after_write};
+ghost use Rattle.tide_edge.specs.Doors.{IsUntouched, door_after_close, door_after_next, door_after_read, door_after_write};
 
 use crate::door::Door;
 use crate::failed::Failed;
@@ -96,6 +96,7 @@ impl<R: Net + rt::Clock + Drop> Door for HostDoor<R> {
         requires none_open { (⟦<HostDoor<R> as Door>⟧.state self.old).listener_state.is_open ≡ false }
         ensures after { ⟦<HostDoor<R> as Door>⟧.state self.new ≡ door_after_next result (⟦<HostDoor<R> as Door>⟧.state self.old) }
         ensures never_over { IfOk result IsTrue }
+        ensures opened { IfOk result (λ _. IsSome (line_of self.new)) }
     {
         if let Some(listener) = &self.listener
             && let Ok(stream) = take_next(listener)
@@ -136,7 +137,11 @@ impl<R: Net + rt::Clock + Drop> Door for HostDoor<R> {
         written
     }
 
-    fn close(&mut self) {
+    fn close(&mut self)
+        requires { IsTrue (⟦<HostDoor<R> as Door>⟧.state self.old).listener_state.is_open }
+        ensures after { ⟦<HostDoor<R> as Door>⟧.state self.new ≡ door_after_close (⟦<HostDoor<R> as Door>⟧.state self.old) }
+        ensures closed { line_of self.new ≡ None }
+    {
         if let Some(line) = &mut self.line {
             line.part(&self.system);
         }

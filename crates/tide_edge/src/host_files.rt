@@ -83,6 +83,7 @@ impl<R: rt::Files + Drop> Files for HostFiles<R> {
             ≡ files_after_read result buffer.new (⟦<HostFiles<R> as Files>⟧.state self.old) }
         ensures within { IfOk result (λ count. count ≤ length buffer.old) }
         ensures none_open { IsNoneOpen (⟦<HostFiles<R> as Files>⟧.state self.old).open_log → IfOk result (λ count. count ≡ 0) }
+        ensures closed { IfOk result (λ count. count ≡ 0 → file_of self.new ≡ None) }
         ensures tied { ReadConsumes (left_of R.File.remaining (file_of self.old))
             (left_of R.File.remaining (file_of self.new)) result buffer.new }
     {

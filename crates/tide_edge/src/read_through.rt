@@ -1,6 +1,6 @@
 //! Reading a file of the machine once.
 
-ghost use Rattle.std.specs.Prelude.{◌≡◌, ◌<◌, ◌≤◌, length, is_none, IsTrue, IfOk};
+ghost use Rattle.std.specs.Prelude.{◌≡◌, ◌<◌, ◌≤◌, length, None, is_none, IsTrue, IfOk};
 ghost use Rattle.std.specs.Io.KnownBytes.{ReadConsumes};
 ghost use Rattle.tide_edge.specs.Adapters.{left_of};
 
@@ -18,6 +18,7 @@ pub(crate) fn read_through<F: Read + Drop>(
 ) -> Result<usize, Failed>
     requires { 0 < length buffer.old }
     ensures within { IfOk result (λ count. count ≤ length buffer.old) }
+    ensures closed { IfOk result (λ count. count ≡ 0 → opened.new ≡ None) }
     ensures none_open { IsTrue (is_none opened.old) → IsTrue (is_none opened.new) × IfOk result (λ count. count ≡ 0) }
     ensures through { ReadConsumes (left_of F.remaining opened.old) (left_of F.remaining opened.new) result buffer.new }
 {
