@@ -5,7 +5,6 @@ use Rattle.calendar_sheet.specs.Calendars.{calendar_text_of}
 use Rattle.decimal_text.specs.Expected.{◌>>=◌, Excused}
 use Rattle.harmonics_book.specs.declared.book.Book.{Book}
 use Rattle.listing.specs.Abouts.{about_text_of}
-use Rattle.question.specs.declared.layout.Layout.{Layout}
 use Rattle.question.specs.declared.question.Question.{Question}
 use Rattle.question.specs.Asked.{AreInRange}
 use Rattle.slope_agreement.specs.Agreements.{agreement_of, predicted_agreement}
@@ -17,8 +16,7 @@ use Rattle.station_span.specs.declared.following.FoundEvents.{FoundEvents}
 use Rattle.station_span.specs.declared.purpose.Purpose.TheVariants.{Events}
 use Rattle.station_span.specs.declared.reference_station.ReferenceStation.{ReferenceStation}
 use Rattle.tide_answer.specs.declared.text.Answer.{Answer}
-use Rattle.listing.specs.ByLayout.{events_text}
-use Rattle.tide_answer.specs.Answers.{asks_span, constituent_count, station_about, listed, named_by, predicted, on_calendar, text_alone}
+use Rattle.tide_answer.specs.Answers.{asks_span, constituent_count, station_about, listed, named_by, on_calendar, text_alone}
 use Rattle.tide_answer.specs.Asking.{request_by_question}
 use Rattle.tide_answer.specs.Workings.Requests.{named_span}
 use Rattle.station_span.specs.Sites.{NamedSpan, Site, site_in, station_in}
@@ -50,11 +48,6 @@ pub named_parts : (question : Question) (request : NamedSpan) → named_span que
 unfolding named_span
 named_parts question request is = both_named _ _ request is
 
-pub goes_over : (question : Question) (next : List ℕ → SpanRequest → Result Answer Refusal) (request : NamedSpan)
-    → named_span question ≡ Ok request → asks_span question next ≡ next request.name request.span_request
-unfolding asks_span
-goes_over question next request is = let parts = named_parts question request is in rw (parts.0, parts.1) refl
-
 -- a request lacks its station or its span
 pub lacks_span : (question : Question) (next : List ℕ → SpanRequest → Result Answer Refusal) (refusal : Refusal)
     → named_span question ≡ Err refusal → asks_span question next ≡ Err refusal
@@ -67,14 +60,6 @@ unfolding named_span listed
 listed_missing book table question refusal is = one_missing _ _ _ refusal is
 
 -- ---- events
-
-pub predicted_whole : (book : Book) (table : List Offsets) (name : List ℕ) (span_request : SpanRequest) (layout : Layout)
-    (zone : Zone) (site : Site) (listed : FoundEvents) (text : List ℕ) → site_in Events book table name span_request ≡ Ok site
-    → IsSiteList book span_request site listed → text ≡ events_text layout name listed.units listed.events zone
-    → predicted book table name span_request layout zone ≡ Ok (record { text = text; rejected = false; cells = listed.cells })
-unfolding predicted
-predicted_whole book table name span_request layout zone site listed text found_station list is =
-    rw (found_station, is, list.units, list.events, list.cells) refl
 
 pub calendar_whole : (book : Book) (table : List Offsets) (name : List ℕ) (span_request : SpanRequest) (zone : Zone) (site : Site)
     (listed : FoundEvents) (text : List ℕ) → site_in Events book table name span_request ≡ Ok site

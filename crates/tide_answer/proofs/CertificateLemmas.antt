@@ -1,5 +1,5 @@
 -- The certificate of a station's tracks.
-use Rattle.std.proofs.Common.{◌≡◌, ℕ, ◌^◌, ◌<◌, ◌≤◌, ℤ, Bool, true, false, List, [], length, Option, Some, None, is_some, option_map, Ok, All, refl, inr, arith}
+use Rattle.std.proofs.Common.{◌≡◌, ℕ, ◌^◌, ◌<◌, ◌≤◌, ℤ, Bool, true, false, List, [], length, Option, Some, None, is_some, option_map, All, refl, inr, arith}
 use Rattle.std.specs.Prelude.{unsigned_abs, IfSome, unwrap_or}
 use Rattle.std.specs.Option.{ForSome}
 use Rattle.std.proofs.lemmas.Int.{ints}
@@ -24,16 +24,15 @@ use Rattle.rate_bound.specs.declared.version.Version.TheVariants.{Second}
 use Rattle.station_curve.specs.Curves.{IsPrediction, IsWithinLimits, Prediction, prediction_of}
 use Rattle.station_curve.proofs.Ranges.{all_minutes_valid}
 use Rattle.station_curve.specs.Schureman.{predicted_millionths}
-use Rattle.station_table.specs.declared.offsets.Offsets.{Offsets}
 use Rattle.zone_time.specs.Moments.{IsMoment}
 use Rattle.station_span.specs.declared.span_request.SpanRequest.{SpanRequest}
 use Rattle.station_span.specs.declared.purpose.Purpose.TheVariants.{Events}
 use Rattle.station_span.specs.declared.found_station.FoundStation.{FoundStation}
 use Rattle.station_span.specs.Workings.Finds.{site_of}
-use Rattle.tide_answer.specs.Answers.{certified}
 use Rattle.station_span.specs.Following.{if_asked, followed, followed_by, tracks_of, cells_of}
-use Rattle.station_span.specs.Sites.{Site, site_in}
+use Rattle.station_span.specs.Sites.{Site}
 use Rattle.tide_answer.specs.Workings.Certifying.{certificate_in}
+use Rattle.tide_answer.specs.Workings.Streaming.{certificate_for}
 use Rattle.station_span.specs.Workings.Spans.{IsBeside, IsFound}
 use Rattle.station_cells.proofs.CellLemmas.{IsOf, accepted_track, few_track, usual_track}
 use Rattle.station_span.proofs.FollowLemmas.{few_cells, found_valid_over}
@@ -197,10 +196,9 @@ certificate_few name book span_request site is =
 
 -- ---- the answer
 
-pub certified_whole : (book : Book) (table : List Offsets) (name : List ℕ) (span_request : SpanRequest) (site : Site)
-    (tracks : Tracks) (text : List ℕ) (cells : ℕ) → site_in Events book table name span_request ≡ Ok site → tracks
-    ≡ tracks_of book site span_request → text ≡ certificate_text (certificate_in name span_request tracks) → cells ≡ cells_in tracks
-    → certified book table name span_request ≡ Ok (record { text = text; rejected = false; cells = cells })
-unfolding certified cells_of cell_count tracks_of
-certified_whole book table name span_request site tracks text cells expected same written counted =
-    rw (expected, written, counted, same) refl
+pub certificate_made : (found_station : FoundStation) (name : List ℕ) (tracks : Tracks) (text : List ℕ) (cells : ℕ)
+    → tracks ≡ tracks_of found_station.curve.book (site_of found_station) found_station.span_request
+    → text ≡ certificate_text (certificate_in name found_station.span_request tracks) → cells ≡ cells_in tracks
+    → certificate_for found_station name ≡ record { text = text; rejected = false; cells = cells }
+unfolding cells_of cell_count tracks_of
+certificate_made found_station name tracks text cells same written counted = rw (written, counted, same) refl

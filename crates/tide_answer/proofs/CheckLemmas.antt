@@ -5,13 +5,11 @@ use Rattle.std.specs.Option.{ForSome}
 use Rattle.std.proofs.lemmas.Int.{ints}
 use Rattle.std.proofs.lemmas.List.{length-map}
 use Rattle.cert_text.specs.declared.certificate.Certificate.{Certificate}
-use Rattle.cert_text.specs.declared.fault.CertFault.{CertFault}
-use Rattle.cert_text.specs.declared.fault.CertFault.TheVariants.{NoMemory, NotACertificate}
 use Rattle.cert_text.specs.declared.track_name.TrackName.{TrackName}
 use Rattle.cert_text.specs.declared.track_name.TrackName.TheVariants.{Turn, Slack, Mark}
 use Rattle.cert_text.specs.Certificates.{IsCertificate, IsMark}
 use Rattle.cert_text.specs.Lines.{cell_line_of, last_line, head_lines_of, track_lines_of, lines_if_there, lines_of, ended, joined, certificate_text}
-use Rattle.cert_text.specs.Readings.{certificate_of, is_out_of_memory}
+use Rattle.cert_text.specs.Readings.{certificate_of}
 use Rattle.curve_law.specs.declared.cell.Cell.{Cell}
 use Rattle.curve_law.specs.declared.event.Event.{Event}
 use Rattle.curve_law.specs.CurveSpec.{CurveSpec}
@@ -33,7 +31,6 @@ use Rattle.station_span.specs.declared.purpose.Purpose.TheVariants.{Events}
 use Rattle.tide_fault.specs.declared.refusal.Refusal.{Refusal}
 use Rattle.tide_answer.specs.Answers.{checked, judged, version_of}
 use Rattle.tide_answer.specs.Asking.{request_by_certificate}
-use Rattle.tide_fault.specs.Faults.{refusal_of_cert, refusal_is_out_of_memory}
 use Rattle.station_span.specs.Following.{asks_slack, slack_times, slack_plus, if_asked, followed_by, events_of}
 use Rattle.station_span.specs.Sites.{Site, site_in}
 use Rattle.station_cells.specs.Rejections.{HasFewCells}
@@ -188,14 +185,6 @@ pub judged_refused : (memory : Bool) (book : Book) (table : List Offsets) (cert 
     → Excused memory (judged_in book table cert zone) refusal
 unfolding judged_in
 judged_refused memory book table cert zone refusal excused = excused_then memory _ _ refusal excused
-
--- the bytes are no certificate's, or they are one's
-pub read_refused : (book : Book) (table : List Offsets) (bytes : List ℕ) (zone : Zone) (fault : CertFault)
-    → Excused (is_out_of_memory fault) (certificate_of bytes) fault
-    → Excused (refusal_is_out_of_memory (refusal_of_cert fault)) (checked book table bytes zone) (refusal_of_cert fault)
-unfolding checked
-read_refused book table bytes zone NoMemory excused = tt
-read_refused book table bytes zone (NotACertificate line) excused = rw excused refl
 
 pub checked_by : (book : Book) (table : List Offsets) (bytes : List ℕ) (zone : Zone) (cert : Certificate)
     → certificate_of bytes ≡ Ok cert → checked book table bytes zone ≡ judged_in book table cert zone

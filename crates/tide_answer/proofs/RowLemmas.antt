@@ -1,5 +1,5 @@
 -- The rows of a list of levels.
-use Rattle.std.proofs.Common.{◌≡◌, ℕ, [], ◌∷◌, ◌++◌, ◌+◌, ◌*◌, ◌/◌, ◌<◌, ◌≤◌, ℤ, pos, negsuc, ◌+ℤ◌, ◌-ℤ◌, ◌*ℤ◌, ◌≤ℤ◌, unsigned_abs, List, refl, sym, arith}
+use Rattle.std.proofs.Common.{◌≡◌, ℕ, [], ◌∷◌, ◌++◌, ◌+◌, ◌*◌, ◌/◌, ◌<◌, ◌≤◌, ℤ, pos, negsuc, ◌+ℤ◌, ◌-ℤ◌, ◌*ℤ◌, ◌≤ℤ◌, unsigned_abs, List, sym, arith}
 use Rattle.std.specs.Prelude.{All}
 use Rattle.std.proofs.lemmas.Int.{ints}
 use Rattle.std.proofs.lemmas.List.Elements.{All-append, All-cons}
@@ -14,9 +14,6 @@ use Rattle.tide_answer.specs.Answers.{row_at, row_count}
 use Rattle.tide_answer.specs.Workings.Rows.{AreRows, IsStep}
 
 -- ---- rows
-
-product_pos : (m n : ℕ) → pos m *ℤ pos n ≡ pos (m * n)
-product_pos m n = refl
 
 -- a row's minute isn't after the end
 pub row_within : (begin end step : ℤ) (index : ℕ) → begin ≤ℤ end → IsStep step → index < row_count begin end step

@@ -24,7 +24,6 @@ use Rattle.station_span.specs.Sites.{Site, site_in}
 use Rattle.tide_answer.specs.Trials.{plus, station_tally, tally_on, tally_at, tally_by, trial_span}
 use Rattle.station_cells.specs.Rejections.{HasFewCells}
 use Rattle.tide_answer.specs.Workings.Certifying.{certificate_in, rejection_in}
-use Rattle.station_span.specs.Workings.Spans.{IsInRange}
 use Rattle.tide_answer.specs.Workings.Tallies.{IsUpTo}
 use Rattle.station_span.proofs.FoundLemmas.{excused_then}
 
@@ -100,9 +99,6 @@ pub tally_done : (book : Book) (sum : Tally) (stations : List Station) (i : ℕ)
     → tally_on book sum (drop i stations) ≡ Ok sum
 unfolding tally_on
 tally_done book sum stations i all = rw (drop_all i stations all) refl
-
-pub trial_in_range : IsInRange trial_span
-trial_in_range = record { begin = omega arith; end = omega arith; mark = λ x e. absurd cc }
 
 pub tally_up : (i : ℕ) (sum one : Tally) → IsUpTo (i * 2 ^ 66) sum → IsUpTo (2 ^ 66) one → IsUpTo ((i + 1) * 2 ^ 66) (plus sum one)
 unfolding plus

@@ -1,6 +1,8 @@
 pub mod Certifying
+pub mod Found
 pub mod Peaks
 pub mod Requests
 pub mod Rows
+pub mod Sources
 pub mod Streaming
 pub mod Tallies

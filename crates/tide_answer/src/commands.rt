@@ -1,6 +1,6 @@
 //! The answer to a request.
 
-ghost use Rattle.std.specs.Prelude.{◌≡◌, IfErr, IfOk};
+ghost use Rattle.std.specs.Prelude.{◌≡◌, false, IfErr, IfOk};
 ghost use Rattle.decimal_text.specs.Expected.{EqualsUnlessNoMemory};
 ghost use Rattle.harmonics_book.specs.Books.{IsBook};
 ghost use Rattle.listing.specs.StationLists.{stations_text_of};
@@ -8,25 +8,24 @@ ghost use Rattle.question.specs.Asked.{AreInRange};
 ghost use Rattle.tide_answer.specs.Answers.{answered, asks_span, text_alone, text_over};
 ghost use Rattle.tide_fault.specs.Faults.{refusal_is_out_of_memory};
 ghost use Rattle.tide_answer.specs.Givens.{IsGiven, given_seen};
-ghost use Rattle.station_span.specs.Workings.Spans.{AreMoments};
+ghost use Rattle.tide_answer.specs.Streams.{can_stream};
 
 use crate::about::about_answer;
 use crate::alone::answer_alone;
 use crate::calendar::list_days;
-use crate::certify::certify;
 use crate::check::check;
 use crate::clock::clock_answer;
+use crate::events_answer::find_answer;
 use crate::heights::list_heights;
 use crate::highest::{certify_peak, highest_answer};
 use crate::inputs::{Given, GivenView};
 use crate::peak_check::check_peak_text;
-use crate::predict::predict;
 use crate::requests::{refusal_of_incomplete, station_named, station_request};
 use crate::text::{Answer, text_alone};
 use harmonics_book::Book;
 use listing::stations_text;
 use question::{Command, Question, ValidQuestion};
-use station_span::{StationData, StationRequest};
+use station_span::StationData;
 use station_table::OffsetTable;
 use std::alloc::Global;
 use tide_fault::Refusal;
@@ -104,12 +103,12 @@ pub fn answer_valid(
     let name = station_named(question);
     let zone = &inputs.zone.clock();
     match question.get().command {
-        Command::Predict
-        | Command::Certify
-        | Command::Heights
-        | Command::Calendar
-        | Command::Highest
-        | Command::Peak => answer_over_span(alloc, stations, question, zone),
+        Command::Predict | Command::Certify => {
+            Ok(find_answer(alloc, stations, question, inputs)?.answer(alloc)?)
+        }
+        Command::Heights | Command::Calendar | Command::Highest | Command::Peak => answer_over_span(
+            alloc, stations, question, zone,
+        ),
         Command::Clock => clock_answer(alloc, stations, name?, inputs.now, zone),
         Command::About => about_answer(alloc, stations, name?),
         Command::Check => check(alloc, stations, inputs.certificate, zone),
@@ -120,37 +119,22 @@ pub fn answer_valid(
     }
 }
 
-/// Returns the answer to `question`; its command needs a station and a span.
+/// Returns the answer to `question`; its command needs a station and a span, and isn't `predict` or
+/// `certify`.
+#[tactic(auto, unfolding(crate::specs::Answers::asks_span))]
 fn answer_over_span(
     alloc: Global,
     stations: &StationData<'_>,
     question: &ValidQuestion<'_>,
     zone: &ZoneClock<'_>,
 ) -> Result<Answer, Refusal>
+    requires { can_stream question.now.command ≡ false }
     ensures { EqualsUnlessNoMemory refusal_is_out_of_memory (asks_span question.now
         (text_over question.now.command stations.now.book stations.now.table question.now zone.now)) result }
 {
-    let request = station_request(question)?;
-    answer_request(alloc, stations, &request, question, zone)
-}
-
-/// Returns the answer to `request` by the command of `question`.
-fn answer_request(
-    alloc: Global,
-    stations: &StationData<'_>,
-    request: &StationRequest<'_>,
-    question: &ValidQuestion<'_>,
-    zone: &ZoneClock<'_>,
-) -> Result<Answer, Refusal>
-    requires { AreMoments request.now.span_request }
-    ensures { EqualsUnlessNoMemory refusal_is_out_of_memory
-        (text_over question.now.command stations.now.book stations.now.table question.now zone.now request.now.name request.now.span_request)
-        result }
-{
+    let request = &station_request(question)?;
     let Question { layout, step, .. } = question.get();
     match question.get().command {
-        Command::Predict => predict(alloc, stations, request, *layout, zone),
-        Command::Certify => certify(alloc, stations, request),
         Command::Heights => list_heights(alloc, stations, request, *step, *layout, zone),
         Command::Calendar => list_days(alloc, stations, request, zone),
         Command::Highest => highest_answer(alloc, stations, request, zone),

@@ -17,6 +17,7 @@ mod certify;
 mod check;
 mod clock;
 mod commands;
+mod events_answer;
 mod form;
 mod heights;
 mod highest;
@@ -38,17 +39,19 @@ mod trial;
 
 pub use alone::answer_alone;
 pub use commands::{answer, answer_valid};
+pub use events_answer::{EventsAnswer, Source, find_answer};
 pub use heights::sample_row_counts;
 pub use inputs::{Given, GivenView};
 pub use laws::{accepted_is_short, accepted_is_true, certified_is_accepted, certified_is_short};
-pub use listed::{Listed, station_events};
+pub use listed::{Listed, list_question, station_events};
 pub use named_files::load_book;
 pub use peak_laws::{
     accepted_peak_is_short, accepted_peak_is_true, highest_is_reported, peak_certified_is_accepted,
     peak_certified_is_short,
 };
-pub use ready::{Ready, answer_into, can_stream, prepare, prepare_valid};
+pub use ready::{Ready, answer_into, can_stream, prepare};
 pub use station_cells::Rejection;
 pub use station_span::{Purpose, SpanRequest, StationData};
+pub use streaming::Stream;
 pub use text::Answer;
 pub use tide_fault::{Fault, Refusal, Slot, Status, fault_line, fault_status};

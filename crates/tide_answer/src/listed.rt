@@ -48,7 +48,6 @@ pub struct Listed {
 /// let (name, units, events) = (&listed.name, listed.units, &listed.events);
 /// let lines = plain_events(alloc, name, units, events, &Zone::Utc)?;
 /// ```
-#[tactic(auto, unfolding(crate::specs::Answers::listed))]
 pub fn station_events(
     alloc: Global,
     book: &Book,
@@ -66,8 +65,28 @@ pub fn station_events(
 {
     let stations = StationData::new(book, table);
     let question = ValidQuestion::new(question);
-    let request = station_request(&question)?;
-    let found_station = list_station(alloc, &stations, &request)?;
+    list_question(alloc, &stations, &question)
+}
+
+/// Returns the events, for a report, of the station, span and mark of the valid `question` about
+/// `stations`. The result is the same as the result of [`station_events`].
+///
+/// # Errors
+/// The same [`Refusal`] as in [`station_events`], in the order that `specs/Answers.antt` defines. If
+/// memory runs out, [`Refusal::NoMemory`] is returned in place of any other result.
+#[tactic(auto, unfolding(crate::specs::Answers::listed))]
+pub fn list_question(
+    alloc: Global,
+    stations: &StationData<'_>,
+    question: &ValidQuestion<'_>,
+) -> Result<Listed, Refusal>
+    ensures exact { EqualsUnlessNoMemory refusal_is_out_of_memory (listed stations.now.book stations.now.table question.now) result }
+    ensures lines { IfOk result (λ found_station. All (IsListed found_station.units) found_station.events) }
+    ensures levels { IfOk result (λ found_station. found_station.units ≢ Units.KnotsSquared) }
+    ensures printed { IfOk result (λ found_station. All (λ b. (32 ≤ b) × (b ≢ 127)) found_station.name) }
+{
+    let request = station_request(question)?;
+    let found_station = list_station(alloc, stations, &request)?;
     Ok(Listed {
         name: request.name().copy()?,
         units: found_station.units,

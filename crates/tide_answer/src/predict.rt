@@ -1,41 +1,34 @@
 //! The answer of the command `predict`: the events of a station over a span.
 
-ghost use Rattle.decimal_text.specs.Expected.{EqualsUnlessNoMemory};
-ghost use Rattle.tide_answer.specs.Answers.{predicted};
-ghost use Rattle.tide_fault.specs.Faults.{refusal_is_out_of_memory};
+ghost use Rattle.std.specs.Prelude.{◌≡◌, IfOk};
+ghost use Rattle.station_span.specs.declared.purpose.Purpose.{Purpose};
+ghost use Rattle.tide_answer.specs.Workings.Streaming.{listing_for};
 
 use crate::text::Answer;
+use decimal_text::Text;
 use listing::events_text;
 use question::Layout;
-use station_span::{StationData, StationRequest, list_station};
-use std::alloc::Global;
-use tide_fault::Refusal;
+use station_span::{FoundStation, find_events};
+use std::alloc::{AllocError, Global};
 use zone_time::ZoneClock;
 
-/// Returns the answer of the command `predict`: the events, over the span of `request`, of the station
-/// that `request` names, in `layout` and in the local time of `zone`.
-///
-/// # Errors
-/// The first [`Refusal`] in this order: the station isn't found, it is a hydraulic current, the span is
-/// backward or outside the file's years, the station's constants exceed a limit ([`Refusal::TooLarge`]
-/// or [`Refusal::TooSteep`]), the span is longer than 5,270,400 minutes, or the request has a mark but
-/// the offsets of the station's high and low waters differ.
-#[tactic(auto, unfolding(crate::specs::Answers::predicted))]
-pub fn predict(
+/// Returns the answer with the events of the station `found_station`, called `name`, over the span of
+/// its request, in `layout` and in the local time of `zone`.
+pub fn listing_answer(
     alloc: Global,
-    stations: &StationData<'_>,
-    request: &StationRequest<'_>,
+    found_station: &FoundStation,
+    name: &Text,
     layout: Layout,
     zone: &ZoneClock<'_>,
-) -> Result<Answer, Refusal>
-    ensures { EqualsUnlessNoMemory refusal_is_out_of_memory
-        (predicted stations.now.book stations.now.table request.now.name request.now.span_request layout zone.now) result }
+) -> Result<Answer, AllocError>
+    requires { found_station.now.purpose ≡ Purpose.Events }
+    ensures { IfOk result (λ answer. answer ≡ listing_for found_station.now name.now layout zone.now) }
 {
-    let listed = list_station(alloc, stations, request)?;
+    let listed = find_events(alloc, found_station)?;
     let text = events_text(
         alloc,
         layout,
-        request.name(),
+        name,
         listed.units,
         &listed.events,
         zone.zone(),

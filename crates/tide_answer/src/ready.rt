@@ -1,27 +1,24 @@
 //! Answers that are streamed.
 
-ghost use Rattle.std.specs.Prelude.{◌≡◌, if◌then◌else◌, Some, None, IsSome, IsTrue, is_some};
+ghost use Rattle.std.specs.Prelude.{◌≡◌, IsSome, IsTrue, is_some};
 ghost use Rattle.std.specs.Option.{ForSome};
 ghost use Rattle.decimal_text.specs.Expected.{EqualsUnlessNoMemory};
 ghost use Rattle.harmonics_book.specs.Books.{IsBook};
 ghost use Rattle.question.specs.Asked.{AreInRange};
 ghost use Rattle.tide_fault.specs.Faults.{refusal_is_out_of_memory};
-ghost use Rattle.tide_answer.specs.Givens.{IsGiven, given_seen};
-ghost use Rattle.tide_answer.specs.Streams.{can_stream, prepared, streams_by, Streams};
-ghost use Rattle.tide_answer.specs.Workings.Streaming.{form_of};
+ghost use Rattle.tide_answer.specs.Givens.{IsGiven};
+ghost use Rattle.tide_answer.specs.Streams.{can_stream, prepared, Streams};
 
-use crate::form::Form;
-use crate::inputs::{Given, GivenView};
-use crate::requests::station_request;
+use crate::events_answer::{Source, find_answer};
+use crate::inputs::Given;
 use crate::streaming::Stream;
 use harmonics_book::Book;
-use question::{Command, Layout, Question, ValidQuestion};
-use station_span::{Purpose, StationData, find_station};
-use station_table::{Basis, OffsetTable};
+use question::{Command, Question, ValidQuestion};
+use station_span::StationData;
+use station_table::OffsetTable;
 use std::alloc::Global;
 use tide_edge::{Sink, WriteFailed};
 use tide_fault::Refusal;
-use zone_time::Zone;
 
 /// The prepared answer to a `predict` or `certify` request that nothing refuses. It holds what is needed
 /// to write the answer while it is computed, if the answer can be streamed in this way, and nothing
@@ -65,40 +62,11 @@ pub fn prepare(
 {
     let stations = StationData::new(book, table);
     let question = ValidQuestion::new(question);
-    prepare_valid(alloc, &stations, &question, inputs.view())
-}
-
-/// Returns the prepared answer to the valid `question`, a `predict` or `certify` request about
-/// `stations`, with the borrowed zone, certificate and present minute of `inputs`. The result is the
-/// same as the result of [`prepare`].
-///
-/// # Errors
-/// The same [`Refusal`] as in [`prepare`], in the order that `specs/Answers.antt` defines. If memory
-/// runs out, [`Refusal::NoMemory`] is returned in place of any other result.
-#[tactic(auto, unfolding(crate::specs::Streams::prepared))]
-pub fn prepare_valid(
-    alloc: Global,
-    stations: &StationData<'_>,
-    question: &ValidQuestion<'_>,
-    inputs: GivenView<'_>,
-) -> Result<Ready, Refusal>
-    requires inputs { IsGiven (given_seen inputs) }
-    requires command { IsTrue (can_stream question.now.command) }
-    ensures { EqualsUnlessNoMemory refusal_is_out_of_memory
-        (prepared stations.now.book stations.now.table question.now (given_seen inputs.entry)) result }
-{
-    let request = station_request(question)?;
-    let found_station = find_station(alloc, stations, Purpose::Events, &request)?;
-    let question = question.get();
-    match streamed_zone(&found_station.basis, question.layout, inputs.zone) {
-        Some(zone) => {
-            let form = form_of(question.command);
-            let stream = Stream::new(form, found_station, request.name().copy()?, zone);
-            Ok(Ready {
-                stream: Some(stream),
-            })
-        }
-        None => Ok(Ready { stream: None }),
+    match find_answer(alloc, &stations, &question, inputs.view())?.source()? {
+        Source::Stream(stream) => Ok(Ready {
+            stream: Some(stream),
+        }),
+        Source::Whole(_whole) => Ok(Ready { stream: None }),
     }
 }
 
@@ -124,29 +92,4 @@ pub fn can_stream(command: Command) -> bool
     ensures { result ≡ can_stream command }
 {
     matches!(command, Command::Predict | Command::Certify)
-}
-
-/// Returns the form of the answers of `command`; they can be streamed.
-fn form_of(command: Command) -> Form
-    ensures { result ≡ form_of command }
-{
-    match command {
-        Command::Certify => Form::Certificate,
-        _ => Form::Listing,
-    }
-}
-
-/// Returns `zone` if the answer is streamed (the station has no offsets, the layout is `plain`, and the
-/// zone isn't a zone file's), and otherwise `None`.
-fn streamed_zone(basis: &Basis, layout: Layout, zone: &Zone) -> Option<Zone>
-    ensures { result ≡ (if streams_by basis.now layout zone.now then Some zone.now else None) }
-{
-    if !basis.plain() || layout != Layout::Plain {
-        return None;
-    }
-    match zone {
-        Zone::Utc => Some(Zone::Utc),
-        Zone::Fixed(ahead) => Some(Zone::Fixed(*ahead)),
-        Zone::File(_) => None,
-    }
 }

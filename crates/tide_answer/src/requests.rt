@@ -31,6 +31,8 @@ pub fn refusal_of_incomplete() -> Refusal
 #[tactic(auto, unfolding(crate::specs::Workings::Requests::named_span))]
 pub fn station_request<'a>(question: &ValidQuestion<'a>) -> Result<StationRequest<'a>, Refusal>
     ensures exact { result ≡ named_span question.now }
+    ensures name { IfOk result (λ request. named_by question.now.station ≡ Ok request.name) }
+    ensures span { IfOk result (λ request. named_by (request_by_question question.now) ≡ Ok request.span_request) }
     ensures moments { IfOk result (λ request. AreMoments request.span_request) }
 {
     let name = station_named(question)?;

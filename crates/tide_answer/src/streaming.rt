@@ -1,6 +1,6 @@
 //! An answer that is written while it is computed.
 
-ghost use Rattle.std.specs.Prelude.{◌≡◌};
+ghost use Rattle.std.specs.Prelude.{◌≡◌, false};
 ghost use Rattle.tide_answer.specs.Streams.{Streams};
 ghost use Rattle.tide_answer.specs.Workings.Streaming.{stream_of, IsStream};
 
@@ -56,7 +56,8 @@ impl Stream {
     /// [`WriteFailed`] if a write to `out` fails: then exactly the first `sent` bytes of the text were
     /// written.
     pub fn write<S: Sink>(&self, out: &mut S) -> Result<u64, WriteFailed>
-        ensures { Streams (S.state out.old) (S.state out.new) self.now result }
+        ensures streams { Streams (S.state out.old) (S.state out.new) self.now result }
+        ensures judged { self.now.rejected ≡ false }
     {
         match self.form {
             Form::Listing => write_listing(out, &self.found_station, &self.name, &self.zone),

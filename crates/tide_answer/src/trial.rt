@@ -108,7 +108,7 @@ fn tally_station(alloc: Global, stations: &StationData<'_>, name: &Text) -> Resu
     let found_station = find_station(alloc, stations, Purpose::Events, &request)?;
     let listed = find_events(alloc, &found_station)?;
     let tracks = find_tracks(alloc, &found_station)?;
-    let cert = certificate_of(&request, tracks)?;
+    let cert = certificate_of(name, &SPAN, tracks)?;
     let rejection = find_rejection(&found_station, &cert);
     Ok(Tally::of(&found_station.span, &cert.tracks, &listed.events, rejection))
 }

@@ -5,7 +5,6 @@ ghost use Rattle.decimal_text.specs.Expected.{EqualsUnlessNoMemory};
 ghost use Rattle.named_files.specs.RunFaults.{reading_failed, refused_over, faulty, is_out_of_memory};
 ghost use Rattle.named_files.specs.Opened.{AreShown, AreShownFor, IsResultOf, failing_file, names_to};
 ghost use Rattle.named_files.specs.Readings.{files_allowed, files_in};
-ghost use Rattle.named_files.specs.Workings.Materials.{AreMaterials};
 ghost use Rattle.question.specs.Asked.{IsZoneWord};
 ghost use Rattle.tide_answer.specs.Answers.{answered_without_files};
 ghost use Rattle.tide_desk.specs.Answers.{
@@ -13,16 +12,13 @@ ghost use Rattle.tide_desk.specs.Answers.{
   HasFiles,
   NamesFile,
   allowed_by,
-  answered_over_book,
   question_of_words,
   reads_clock,
-  given_with,
-  is_report,
   refused_from,
 };
 ghost use Rattle.tide_desk.specs.Outcomes.{WentOn, sources};
 ghost use Rattle.tide_desk.specs.Shown.{Agrees, IsReadLast, answer_shown, minute_read, names_wanted, readings_between, shown_over};
-ghost use Rattle.tide_desk.specs.Workings.Replies.{IsReply, answer_by as answer_from};
+ghost use Rattle.tide_desk.specs.Workings.Replies.{answer_by as answer_from};
 ghost use Rattle.tide_desk.specs.Workings.Settled.{reading_of};
 ghost use Rattle.tide_edge.specs.Clocks.{IsClockMinute, clock_after};
 
@@ -34,9 +30,8 @@ use decimal_text::{Text, Words};
 use named_files::{Materials, RunFault, read_files};
 use question::{Command, ValidQuestion};
 use report_sheets::Sheet;
-use station_table::OffsetTable;
 use std::alloc::Global;
-use tide_answer::{Given, StationData, answer_alone};
+use tide_answer::answer_alone;
 use tide_edge::{Clock, Files};
 use tide_fault::{Fault, Refusal};
 
@@ -91,7 +86,7 @@ fn answer_without(alloc: Global, question: &ValidQuestion<'_>) -> Result<Reply, 
     ensures read { reading_failed result ≡ false }
 {
     match answer_alone(alloc, question) {
-        Ok(answer) => Ok(Reply::made(answer)),
+        Ok(answer) => Ok(Reply::of(Body::Text(answer))),
         Err(refusal) => Err(RunFault::Faulty(Fault::Refused(refusal))),
     }
 }
@@ -119,7 +114,10 @@ fn answer_over<F: Files, K: Clock>(
 {
     let read = read_files(alloc, files, question, name)?;
     match read_minute(clock, question) {
-        Ok(now) => answer_with(alloc, read, question, now, sheets),
+        Ok(now) => {
+            let replied = body_with(alloc, &read, question, now, sheets);
+            refused_over(replied, read)
+        }
         Err(none) => {
             drop(read);
             Err(none)
@@ -154,46 +152,13 @@ fn reads_clock(command: Command) -> bool
     matches!(command, Command::Clock | Command::Report)
 }
 
-/// Returns the answer with the contents `read` of the files, at the present minute `now`.
-fn answer_with(
-    alloc: Global,
-    read: Materials,
-    question: &ValidQuestion<'_>,
-    now: i64,
-    sheets: Vec<Box<dyn Sheet>>,
-) -> Result<Reply, RunFault>
-    requires materials { AreMaterials read }
-    requires now { IsClockMinute now }
-    ensures exact { EqualsUnlessNoMemory is_out_of_memory (refused_over read.table (answered_over_book (is_report question.now.command)
-        (map sheet_spec sheets.items) read.book read.table question.now (given_with read now))) result }
+/// Returns the answer of `replied` to a command line; `read` has the table of offsets that was read.
+fn refused_over(replied: Result<Body, Refusal>, read: Materials) -> Result<Reply, RunFault>
+    ensures exact { result ≡ refused_over read.table (answer_from replied) }
     ensures read { reading_failed result ≡ false }
     ensures of_no_file { failing_file result ≡ None }
 {
-    let Materials {
-        book,
-        table,
-        zone,
-        certificate,
-    } = read;
-    let inputs = Given {
-        zone,
-        certificate,
-        now,
-    };
-    let stations = StationData::new(&book, &table);
-    let replied = body_with(alloc, &stations, question, &inputs, sheets);
-    drop(inputs);
-    drop(book);
-    refused_over(replied, table)
-}
-
-/// Returns the answer of `replied` to a command line; `table` is the table of offsets that was read.
-fn refused_over(replied: Result<Body, Refusal>, table: OffsetTable) -> Result<Reply, RunFault>
-    requires valid { IfOk replied IsReply }
-    ensures exact { result ≡ refused_over table (answer_from replied) }
-    ensures read { reading_failed result ≡ false }
-    ensures of_no_file { failing_file result ≡ None }
-{
+    let Materials { table, .. } = read;
     match replied {
         Ok(body) => Ok(Reply::of(body)),
         Err(refusal) => Err(RunFault::Refused(refusal, table)),

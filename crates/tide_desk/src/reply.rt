@@ -1,13 +1,12 @@
 //! Answers that can be written.
 
-ghost use Rattle.std.specs.Prelude.{◌≡◌, false, IfOk, is_err};
-ghost use Rattle.std.specs.Option.{ForSome};
+ghost use Rattle.std.specs.Prelude.{◌≡◌, IfOk, is_err};
 ghost use Rattle.tide_edge.specs.SinkStates.{Wrote};
-ghost use Rattle.tide_desk.specs.Workings.Replies.{IsReply, Streamed, answer_in};
+ghost use Rattle.tide_desk.specs.Workings.Replies.{answer_in};
 
 use crate::body::Body;
 use std::marker::Model;
-use tide_answer::{Answer, Ready, answer_into};
+use tide_answer::{Answer, Stream};
 use tide_edge::{Sink, WriteFailed, write_all};
 
 /// An answer that is ready to be written: its text is in memory, or is computed while it is written. In
@@ -19,29 +18,16 @@ pub struct Reply {
 
 impl Model for Reply {
     ghost use Rattle.tide_answer.specs.declared.text.Answer.{Answer};
-    ghost use Rattle.tide_desk.specs.Workings.Replies.{answer_in, IsReply};
+    ghost use Rattle.tide_desk.specs.Workings.Replies.{answer_in};
 
     ghost Value = { Answer };
 
     ghost view = { λ r. answer_in r.body };
-
-    ghost invariant = { λ r. IsReply r.body };
 }
 
 impl Reply {
-    /// Returns `answer`, whose text is in memory, ready to be written.
-    pub fn made(answer: Answer) -> Reply
-        ensures { result ≡ answer }
-    {
-        Reply {
-            body: Body::Text(answer),
-        }
-    }
-
-    /// Returns the answer of `body`, ready to be written. `body` has a text in memory, or an answer that
-    /// is computed while it is written.
+    /// Returns the answer of `body`, ready to be written.
     pub fn of(body: Body) -> Reply
-        requires { IsReply body }
         ensures { result ≡ answer_in body }
     {
         Reply { body }
@@ -58,7 +44,7 @@ impl Reply {
     {
         match &self.body {
             Body::Text(answer) => write_text(answer, out),
-            Body::Stream(ready) => write_stream(ready, out),
+            Body::Stream(stream) => write_stream(stream, out),
         }
     }
 }
@@ -73,11 +59,10 @@ fn write_text<O: Sink>(answer: &Answer, out: &mut O) -> Result<bool, WriteFailed
 }
 
 /// Writes an answer while it is computed. It rejects nothing.
-fn write_stream<O: Sink>(ready: &Ready, out: &mut O) -> Result<bool, WriteFailed>
-    requires { Streamed ready.now }
-    ensures wrote { ForSome ready.now.stream (λ answer. Wrote (O.state out.old) (O.state out.new) (is_err result) answer.text) }
-    ensures judged { IfOk result (λ rejected. rejected ≡ false) }
+fn write_stream<O: Sink>(stream: &Stream, out: &mut O) -> Result<bool, WriteFailed>
+    ensures wrote { Wrote (O.state out.old) (O.state out.new) (is_err result) stream.now.text }
+    ensures judged { IfOk result (λ rejected. rejected ≡ stream.now.rejected) }
 {
-    answer_into(ready, out)?;
+    stream.write(out)?;
     Ok(false)
 }

@@ -5,7 +5,6 @@ ghost use Rattle.decimal_text.specs.Expected.{EqualsUnlessNoMemory};
 ghost use Rattle.event_text.specs.Lines.{IsListed};
 ghost use Rattle.harmonics_book.specs.declared.book.Units.{Units};
 ghost use Rattle.report_sheets.specs.Pages.{pages_of};
-ghost use Rattle.tide_answer.specs.Givens.{IsGiven};
 ghost use Rattle.tide_desk.specs.Answers.{head_of, reported};
 ghost use Rattle.tide_fault.specs.Faults.{refusal_is_out_of_memory};
 
@@ -13,12 +12,12 @@ use decimal_text::{Bytes, Words};
 use question::ValidQuestion;
 use report_sheets::{Head, Sheet, fill};
 use std::alloc::{AllocError, Global};
-use tide_answer::{Answer, Given, Listed, StationData, station_events};
+use tide_answer::{Answer, Listed, StationData, list_question};
 use tide_fault::Refusal;
 
 /// Returns the answer of the command `report`: a page for each of `sheets` that `question` requests,
 /// with the events of the station, span and mark of `question`. Each page's head has the station's
-/// name, the unit and the current minute, taken from `inputs`.
+/// name, the unit and the current minute `now`.
 ///
 /// # Errors
 /// [`Refusal::NoMemory`] if memory runs out; otherwise the first [`Refusal`] in this order: the station
@@ -31,17 +30,14 @@ pub fn report(
     alloc: Global,
     stations: &StationData<'_>,
     question: &ValidQuestion<'_>,
-    inputs: &Given,
+    now: i64,
     sheets: Vec<Box<dyn Sheet>>,
 ) -> Result<Answer, Refusal>
-    requires inputs { IsGiven inputs.now }
     ensures { EqualsUnlessNoMemory refusal_is_out_of_memory
-        (reported (map sheet_spec sheets.items) stations.now.book stations.now.table question.now inputs.entry.now.now) result }
+        (reported (map sheet_spec sheets.items) stations.now.book stations.now.table question.now now) result }
 {
-    let book = stations.book().get();
-    let question = question.get();
-    let listed = station_events(alloc, book, stations.table(), question, inputs)?;
-    let text = pages(alloc, listed, inputs.now, &question.sheets, sheets)?;
+    let listed = list_question(alloc, stations, question)?;
+    let text = pages(alloc, listed, now, &question.get().sheets, sheets)?;
     Ok(Answer {
         text,
         rejected: false,

@@ -1,12 +1,14 @@
--- The parts of an answer that is streamed.
-use Rattle.std.specs.Prelude.{◌≡◌, ℕ, false, IsTrue, List, ◌++◌, All, IfSome, codes}
+-- The answers with a station's events, and the parts of one that is streamed.
+use Rattle.std.specs.Prelude.{◌≡◌, ℕ, IsTrue, List, ◌++◌, All, IfSome, codes}
 use Rattle.cert_text.specs.Certificates.{IsCell, IsStationName}
 use Rattle.cert_text.specs.declared.track_name.TrackName.TheVariants.{Turn, Slack, Mark}
 use Rattle.cert_text.specs.Lines.{certificate_text, begin_line_of, end_line_of, mark_line_of, track_lines_of, lines_if_there, ended, joined}
 use Rattle.curve_law.specs.declared.tracks.Tracks.{Tracks}
-use Rattle.listing.specs.Listings.{plain_events_of}
+use Rattle.listing.specs.ByLayout.{events_text}
 use Rattle.question.specs.declared.command.Command.{Command}
 use Rattle.question.specs.declared.command.Command.TheVariants.{Certify}
+use Rattle.question.specs.declared.layout.Layout.{Layout}
+use Rattle.question.specs.declared.layout.Layout.TheVariants.{Plain}
 use Rattle.station_table.specs.Bases.{is_plain}
 use Rattle.zone_time.specs.declared.zone.Zone.{Zone}
 use Rattle.zone_time.specs.Zones.{IsZone}
@@ -15,35 +17,50 @@ use Rattle.tide_answer.specs.declared.form.Form.{Form}
 use Rattle.tide_answer.specs.declared.form.Form.TheVariants.{Listing, Certificate}
 use Rattle.station_span.specs.declared.found_station.FoundStation.{FoundStation}
 use Rattle.station_span.specs.declared.purpose.Purpose.TheVariants.{Events}
-use Rattle.station_span.specs.Following.{cells_of, events_of}
-use Rattle.station_span.specs.Sites.{Site}
+use Rattle.station_span.specs.Following.{events_of}
 use Rattle.station_span.specs.Workings.Finds.{site_of}
-use Rattle.harmonics_book.specs.declared.book.Book.{Book}
-use Rattle.tide_answer.specs.Answers.{certificate_by}
+use Rattle.tide_answer.specs.Answers.{certificate_by, text_of_events}
 use Rattle.tide_answer.specs.declared.text.Answer.{Answer}
 use Rattle.station_span.specs.Workings.Spans.{AreMoments}
 
--- the text of a streamed answer for the station called `name`: the listing of its events, or their
--- certificate
-abbrev pub stream_text : Form → Book → Site → List ℕ → SpanRequest → Zone → List ℕ
-stream_text Listing book site name span_request zone = plain_events_of name site.station.units (events_of book site span_request) zone
-stream_text Certificate book site name span_request zone = certificate_text (certificate_by book site name span_request)
+-- the answer with the text `text`, and with the number of cells of the search for the events of the
+-- station `found_station`
+abbrev pub answer_for : FoundStation → List ℕ → Answer
+answer_for found_station text = text_of_events found_station.curve.book (site_of found_station) found_station.span_request text
 
--- a streamed answer for the station called `name`: the listing of its events, or their certificate; with
--- the number of its cells
-abbrev pub stream_answer : Form → Book → Site → List ℕ → SpanRequest → Zone → Answer
-stream_answer form book site name span_request zone =
-    record { text = stream_text form book site name span_request zone; rejected = false; cells = cells_of book site span_request }
+-- the listing, in a layout, of the events of the station `found_station`, called `name`, as an answer
+abbrev pub listing_for : FoundStation → List ℕ → Layout → Zone → Answer
+listing_for found_station name layout zone =
+    answer_for found_station (events_text layout name found_station.curve.station.units
+    (events_of found_station.curve.book (site_of found_station) found_station.span_request) zone)
+
+-- the certificate of the events of the station `found_station`, called `name`, as an answer
+abbrev pub certificate_for : FoundStation → List ℕ → Answer
+certificate_for found_station name =
+    answer_for found_station (certificate_text (certificate_by found_station.curve.book (site_of found_station) name found_station.span_request))
+
+-- the answer for the station `found_station`, called `name`: the listing of its events in a layout, or
+-- their certificate
+abbrev pub whole_of : Form → FoundStation → List ℕ → Layout → Zone → Answer
+whole_of Listing found_station name layout zone = listing_for found_station name layout zone
+whole_of Certificate found_station name layout zone = certificate_for found_station name
 
 -- a streamed answer for the station `found_station`, called `name`: the listing of its events, or their
 -- certificate
 abbrev pub stream_of : Form → FoundStation → List ℕ → Zone → Answer
-stream_of form found_station name zone = stream_answer form found_station.curve.book (site_of found_station) name found_station.span_request zone
+stream_of form found_station name zone = whole_of form found_station name Plain zone
 
 -- the form of a command's streamed answers: a certificate for `certify`, a listing for any other command
 abbrev pub form_of : Command → Form
 form_of Certify = Certificate
 form_of _ = Listing
+
+-- the certificate of the events of `found_station` can be written: the station was found for events, its
+-- span can be written as text, and its name is a station's name
+pub record CanCertify (found_station : FoundStation) (name : List ℕ) : Type 0 where
+  pub purpose : found_station.purpose ≡ Events
+  pub moments : AreMoments found_station.span_request
+  pub named : IsStationName name
 
 -- an answer for `found_station` can be streamed: the station was found for events and has no offsets,
 -- its span can be written as text, its name is a station's name, and the zone has a local time at each

@@ -21,7 +21,7 @@ pub returns-clause-exact : goal.returns-clause-exact
 returns-clause-exact c =
     let found_station = c.in_ok-found_station.found_station in
     let is = rw (c.new-request.ensures, c.requires) at c.in_ok-found_station.ensures.exact in
-    let cert = rw c.new-request.ensures at c.in_ok-cert.ensures in
+    let cert = c.in_ok-cert.ensures in
     let span = span_for found_station Events is.purpose ∙ ap (λ (a : SpanRequest). widened_of found_station.basis a.begin a.end) is.span_request in
     rw (c.of.ensures.exact, cert)
     (station_whole c.args.stations.now.book c.args.name.now (site_of found_station) found_station.span c.in_ok-tracks.tracks

@@ -8,6 +8,7 @@ use Rattle.named_files.proofs.ReadingLemmas.{failed_at, meets_inside}
 use Rattle.tide_desk.specs.Answers.{reads_clock}
 use Rattle.tide_desk.specs.Outcomes.{sources}
 use Rattle.tide_desk.proofs.AnsweringLemmas.{last_read, last_unread, shown_read, shown_unread, went_asking, went_reading}
+use Rattle.tide_desk.proofs.ReplyLemmas.{refused_meets}
 use Rattle.tide_desk.proofs.SettledLemmas.{never}
 use Rattle.tide_desk.proofs.answering.answer_over.Goals as goal
 
@@ -59,16 +60,16 @@ returns-in-Err-clause-last g c =
 pub returns-in-Ok-clause-shown : goal.returns-in-Ok-clause-shown
 returns-in-Ok-clause-shown g c = λ given agrees.
     let fits : FitsSigned w64 c.in-Ok.now = search rules in
-    let exact = simp to_z-of_z at c.answer_with.ensures.exact in
+    let exact = refused_meets _ _ _ _ (simp to_z-of_z at c.body_with-replied.ensures.exact) c.refused_over.ensures.exact in
     shown_read _ given c.args.question.now c.args.name.now
     (g.F.Files.state c.args.files.now).open_log
     (g.F.Files.state c.read_files.new.files).open_log
-    c.in_ok-read.read c.answer_with.result c.answer_with.ensures.of_no_file
-    (λ firm. rw (c.in-Ok.ensures.given given agrees) (meets_inside (IsTrue firm) _ c.answer_with.result exact)) c.in_ok-read.ensures.opened
+    c.in_ok-read.read c.refused_over.result c.refused_over.ensures.of_no_file
+    (λ firm. rw (c.in-Ok.ensures.given given agrees) (meets_inside (IsTrue firm) _ c.refused_over.result exact)) c.in_ok-read.ensures.opened
 
 pub returns-in-Ok-clause-reads : goal.returns-in-Ok-clause-reads
 returns-in-Ok-clause-reads g c =
-    rw c.answer_with.ensures.read
+    rw c.refused_over.ensures.read
     (went_asking (reads_clock c.args.question.now.command) false c.in-Ok.now (files_allowed c.args.question.now)
     (g.F.Files.state c.args.files.now) (g.F.Files.state c.read_files.new.files)
     (g.K.Clock.state c.args.clock.now) (g.K.Clock.state c.read_minute.new.clock)
@@ -79,5 +80,5 @@ returns-in-Ok-clause-last g c =
     last_read c.args.question.now c.args.name.now _ _
     (sources (g.F.Files.state c.args.files.now) (g.K.Clock.state c.args.clock.now))
     (sources (g.F.Files.state c.read_files.new.files) (g.K.Clock.state c.read_minute.new.clock))
-    c.in_ok-read.read c.answer_with.result c.in_ok-read.ensures.opened
+    c.in_ok-read.read c.refused_over.result c.in_ok-read.ensures.opened
     (λ asks settled. (c.in-Ok.now, rw asks at c.in-Ok.ensures.time))
