@@ -12,6 +12,7 @@ use decimal_text::{Bytes, Text};
 use harmonics_book::Book;
 use harmonics_text::read_book;
 use listing::plain_events;
+use named_files::LoadFault;
 use question::{AskFault, Question, pairs_of_words, read_question};
 use sample_tides::{DAY, PIER, words_of};
 use station_span::{
@@ -22,7 +23,8 @@ use station_table::OffsetTable;
 use std::alloc::Global;
 use std::process::Abort;
 use std::test::Fail;
-use tide_answer::{Given, Refusal, answer, station_events};
+use tide_answer::{Given, Refusal, answer, load_book, station_events};
+use tide_edge::MemoryFiles;
 use zone_time::Zone;
 
 fn pier(alloc: Global) -> Result<Book, Refusal>
@@ -268,5 +270,14 @@ fn a_certificate_is_written(rt: HostRuntime) -> Result<(), Fail> {
     let cert = read_certificate(alloc, CERTIFICATE.as_bytes())?;
     let written = write_certificate(alloc, &cert)?;
     assert_eq!(rt; written.as_slice(), CERTIFICATE.as_bytes());
+    Ok(())
+}
+
+#[test]
+fn loaded_books(rt: HostRuntime) -> Result<(), Fail> {
+    let mut files = MemoryFiles::new(Vec::new(rt.alloc()), Vec::new(rt.alloc()));
+    let name = Text::from_str(rt.alloc(), "harmonics")?;
+    let loaded = load_book(rt.alloc(), &mut files, &name, 1_000);
+    assert_eq!(rt; loaded.err(), Some(LoadFault::Failed));
     Ok(())
 }

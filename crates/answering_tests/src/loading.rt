@@ -7,7 +7,6 @@ use decimal_text::{Bytes, MOST_BYTES, Text};
 use harmonics_text::{BookFault, Why};
 use named_files::LoadFault;
 use std::alloc::{AllocError, Global};
-use std::test::Fail;
 use tide_answer::load_book;
 use tide_edge::{MemoryFiles, NamedFile};
 
@@ -108,13 +107,4 @@ fn a_book_is_loaded_in_pieces(rt: HostRuntime) {
         let is_loaded = is_loaded(rt.alloc(), name, *limit, *failing, expected);
         assert!(rt; is_loaded, "row {place}");
     }
-}
-
-#[test]
-fn a_missing_file_fails(rt: HostRuntime) -> Result<(), Fail> {
-    let mut files = MemoryFiles::new(Vec::new(rt.alloc()), Vec::new(rt.alloc()));
-    let name = Text::from_str(rt.alloc(), "harmonics")?;
-    let loaded = load_book(rt.alloc(), &mut files, &name, 1_000);
-    assert_eq!(rt; loaded.err(), Some(LoadFault::Failed));
-    Ok(())
 }
