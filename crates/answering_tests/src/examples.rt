@@ -1,6 +1,5 @@
 //! The examples in the documentation of public calls, over a pier from 1999 to 2001.
 
-ghost use Rattle.std.specs.Prelude.{IfOk};
 ghost use Rattle.harmonics_book.specs.Books.{IsBook};
 ghost use Rattle.question.specs.Asked.{IsAsked};
 ghost use Rattle.tide_answer.specs.Givens.{IsGiven};
@@ -13,7 +12,7 @@ use harmonics_book::Book;
 use harmonics_text::read_book;
 use listing::plain_events;
 use named_files::LoadFault;
-use question::{AskFault, Question, pairs_of_words, read_question};
+use question::{Question, pairs_of_words, read_question};
 use sample_tides::{DAY, PIER, words_of};
 use station_span::{
     Purpose, SpanRequest, StationData, StationRequest, find_events, find_level, find_station,
@@ -22,35 +21,23 @@ use station_span::{
 use station_table::OffsetTable;
 use std::alloc::Global;
 use std::process::Abort;
-use std::test::Fail;
-use tide_answer::{Given, Refusal, answer, load_book, station_events};
+use tide_answer::{Given, answer, load_book, station_events};
 use tide_edge::MemoryFiles;
 use zone_time::Zone;
 
-fn pier(alloc: Global) -> Result<Book, Refusal>
-    ensures { IfOk result IsBook }
+fn pier(rt: &impl Abort, alloc: Global) -> Book
+    ensures { IsBook result }
 {
-    match read_book(alloc, PIER.as_bytes()) {
-        Ok(book) => Ok(book),
-        Err(_) => Err(Refusal::NoMemory),
-    }
-}
-
-fn asked(alloc: Global, line: &str) -> Result<Question, AskFault>
-    ensures { IfOk result IsAsked }
-{
-    let pairs = pairs_of_words(alloc, &words_of(alloc, line)?)?;
-    read_question(alloc, &pairs)
+    read_book(alloc, PIER.as_bytes()).expect(rt, "a book")
 }
 
 /// Returns the request of the arguments in `line`, separated by '|'.
-fn request(alloc: Global, line: &str) -> Result<Question, Refusal>
-    ensures { IfOk result IsAsked }
+fn request(rt: &impl Abort, alloc: Global, line: &str) -> Question
+    ensures { IsAsked result }
 {
-    match asked(alloc, line) {
-        Ok(question) => Ok(question),
-        Err(_) => Err(Refusal::NoMemory),
-    }
+    let words = words_of(alloc, line).expect(rt, "words");
+    let pairs = pairs_of_words(alloc, &words).expect(rt, "pairs");
+    read_question(alloc, &pairs).expect(rt, "a question")
 }
 
 const DAY_OF_PIER: &str =
@@ -68,24 +55,18 @@ struct Sources {
     question: Question,
 }
 
-fn pier_sources(alloc: Global) -> Result<Sources, Refusal>
-    ensures book { IfOk result (λ sources. IsBook sources.book) }
-    ensures question { IfOk result (λ sources. IsAsked sources.question) }
+fn pier_sources(rt: &impl Abort, alloc: Global) -> Sources
+    ensures book { IsBook result.book }
+    ensures question { IsAsked result.question }
 {
-    Ok(Sources {
-        question: request(alloc, DAY_OF_PIER)?,
-        book: pier(alloc)?,
+    Sources {
+        question: request(rt, alloc, DAY_OF_PIER),
+        book: pier(rt, alloc),
         table: OffsetTable::new(alloc),
-    })
+    }
 }
 
-fn find_day(
-    rt: &impl Abort,
-    alloc: Global,
-    book: &Book,
-    table: &OffsetTable,
-    name: &Text,
-) -> Result<(), Refusal>
+fn find_day(rt: &impl Abort, alloc: Global, book: &Book, table: &OffsetTable, name: &Text)
     requires { IsBook book.now }
 {
     let span_request = SpanRequest {
@@ -95,28 +76,24 @@ fn find_day(
     };
     let stations = StationData::new(&book, &table);
     let request = StationRequest::new(&name, span_request);
-    let found_station = find_station(alloc, &stations, Purpose::Events, &request)?;
-    let listed = find_events(alloc, &found_station)?;
+    let found_station = find_station(alloc, &stations, Purpose::Events, &request).expect(
+        rt,
+        "a station",
+    );
+    let listed = find_events(alloc, &found_station).expect(rt, "events");
     assert_eq!(rt; listed.events.as_slice().len(), 4);
-    Ok(())
 }
 
 #[test]
-fn a_station_has_its_events(rt: HostRuntime) -> Result<(), Refusal> {
+fn a_station_has_its_events(rt: HostRuntime) {
     let alloc = rt.alloc();
-    let name = Text::from_str(alloc, "Pier")?;
-    let book = pier(alloc)?;
+    let name = Text::from_str(alloc, "Pier").expect(&rt, "a name");
+    let book = pier(&rt, alloc);
     let table = OffsetTable::new(alloc);
-    find_day(&rt, alloc, &book, &table, &name)
+    find_day(&rt, alloc, &book, &table, &name);
 }
 
-fn find_highest_water(
-    rt: &impl Abort,
-    alloc: Global,
-    book: &Book,
-    table: &OffsetTable,
-    name: &Text,
-) -> Result<(), Refusal>
+fn find_highest_water(rt: &impl Abort, alloc: Global, book: &Book, table: &OffsetTable, name: &Text)
     requires { IsBook book.now }
 {
     let span_request = SpanRequest {
@@ -126,29 +103,22 @@ fn find_highest_water(
     };
     let stations = StationData::new(&book, &table);
     let request = StationRequest::new(&name, span_request);
-    let found_station = find_level(alloc, &stations, &request)?;
+    let found_station = find_level(alloc, &stations, &request).expect(rt, "a station");
     let minute = moved_minute(&found_station, highest_minute(&found_station));
     let level = level_at(&found_station, minute);
     assert_eq!(rt; (minute, level), (15_791_040, 1_000_000));
-    Ok(())
 }
 
 #[test]
-fn a_span_has_its_highest_water(rt: HostRuntime) -> Result<(), Refusal> {
+fn a_span_has_its_highest_water(rt: HostRuntime) {
     let alloc = rt.alloc();
-    let name = Text::from_str(alloc, "Pier")?;
-    let book = pier(alloc)?;
+    let name = Text::from_str(alloc, "Pier").expect(&rt, "a name");
+    let book = pier(&rt, alloc);
     let table = OffsetTable::new(alloc);
-    find_highest_water(&rt, alloc, &book, &table, &name)
+    find_highest_water(&rt, alloc, &book, &table, &name);
 }
 
-fn answer_day(
-    rt: &impl Abort,
-    alloc: Global,
-    book: &Book,
-    table: &OffsetTable,
-    question: &Question,
-) -> Result<(), Refusal>
+fn answer_day(rt: &impl Abort, alloc: Global, book: &Book, table: &OffsetTable, question: &Question)
     requires book { IsBook book.now }
     requires question { IsAsked question.now }
 {
@@ -157,48 +127,40 @@ fn answer_day(
         certificate: Bytes::from_vec(Vec::new(alloc)),
         now: 0,
     };
-    let answered = answer(alloc, &book, &table, &question, &inputs)?;
+    let answered = answer(alloc, &book, &table, &question, &inputs).expect(rt, "an answer");
     assert_eq!(rt; answered.text.as_slice(), DAY.as_bytes());
-    Ok(())
 }
 
 #[test]
-fn a_request_is_answered(rt: HostRuntime) -> Result<(), Refusal> {
-    let sources = pier_sources(rt.alloc())?;
-    answer_day(
-        &rt,
-        rt.alloc(),
-        &sources.book,
-        &sources.table,
-        &sources.question,
-    )
+fn a_request_is_answered(rt: HostRuntime) {
+    let sources = pier_sources(&rt, rt.alloc());
+    let (book, table, question) = (&sources.book, &sources.table, &sources.question);
+    answer_day(&rt, rt.alloc(), book, table, question);
 }
 
-fn check_certificate(
-    rt: &impl Abort,
-    alloc: Global,
-    book: &Book,
-    table: &OffsetTable,
-) -> Result<(), Refusal>
+fn check_certificate(rt: &impl Abort, alloc: Global, book: &Book, table: &OffsetTable)
     requires { IsBook book.now }
 {
-    let question = request(alloc, "check|file=f|certificate=c")?;
+    let question = request(rt, alloc, "check|file=f|certificate=c");
+    let certificate = CERTIFICATE
+        .as_bytes()
+        .to_vec(alloc)
+        .expect(rt, "a certificate");
     let inputs = Given {
         zone: Zone::Utc,
-        certificate: Bytes::from_vec(CERTIFICATE.as_bytes().to_vec(alloc)?),
+        certificate: Bytes::from_vec(certificate),
         now: 0,
     };
-    let checked = answer(alloc, &book, &table, &question, &inputs)?;
+    let checked = answer(alloc, &book, &table, &question, &inputs).expect(rt, "an answer");
     assert!(rt; !checked.rejected);
     assert_bytes(rt, checked.text.as_slice(), b"Accepted\nPier\n", "check");
-    Ok(())
 }
 
 #[test]
-fn a_certificate_is_checked(rt: HostRuntime) -> Result<(), Refusal> {
-    let book = pier(rt.alloc())?;
+fn a_certificate_is_checked(rt: HostRuntime) {
+    let book = pier(&rt, rt.alloc());
     let table = OffsetTable::new(rt.alloc());
-    check_certificate(&rt, rt.alloc(), &book, &table)
+    check_certificate(&rt, rt.alloc(), &book, &table);
 }
 
 fn list_day(
@@ -208,16 +170,15 @@ fn list_day(
     table: &OffsetTable,
     question: &Question,
     inputs: &Given,
-) -> Result<(), Refusal>
+)
     requires book { IsBook book.now }
     requires question { IsAsked question.now }
     requires inputs { IsGiven inputs.now }
 {
-    let listed = station_events(alloc, &book, &table, &question, &inputs)?;
+    let listed = station_events(alloc, &book, &table, &question, &inputs).expect(rt, "events");
     let (name, units, events) = (&listed.name, listed.units, &listed.events);
-    let lines = plain_events(alloc, name, units, events, &Zone::Utc)?;
+    let lines = plain_events(alloc, name, units, events, &Zone::Utc).expect(rt, "lines");
     assert_eq!(rt; lines.as_slice(), DAY.as_bytes());
-    Ok(())
 }
 
 fn list_dates(
@@ -227,32 +188,32 @@ fn list_dates(
     table: &OffsetTable,
     question: &Question,
     inputs: &Given,
-) -> Result<(), Refusal>
+)
     requires book { IsBook book.now }
     requires question { IsAsked question.now }
     requires inputs { IsGiven inputs.now }
 {
-    let listed = station_events(alloc, book, table, question, inputs)?;
+    let listed = station_events(alloc, book, table, question, inputs).expect(rt, "events");
     let (name, units, events) = (&listed.name, listed.units, &listed.events);
     let (begin, end) = (15_791_040, 15_792_480);
-    let dates = calendar_text(alloc, name, units, events, &Zone::Utc, begin, end)?;
+    let dates = calendar_text(alloc, name, units, events, &Zone::Utc, begin, end);
+    let dates = dates.expect(rt, "a calendar");
     let first = b"Pier\n2000-01-10  06:00 -1.00 Low";
     assert_holds(rt, dates.as_slice().starts_with(first), "calendar");
-    Ok(())
 }
 
 #[test]
-fn events_are_laid_out(rt: HostRuntime) -> Result<(), Refusal> {
+fn events_are_laid_out(rt: HostRuntime) {
     let alloc = rt.alloc();
-    let sources = pier_sources(alloc)?;
+    let sources = pier_sources(&rt, alloc);
     let inputs = Given {
         zone: Zone::Utc,
         certificate: Bytes::from_vec(Vec::new(alloc)),
         now: 0,
     };
     let (book, table, question) = (&sources.book, &sources.table, &sources.question);
-    list_day(&rt, alloc, book, table, question, &inputs)?;
-    list_dates(&rt, alloc, book, table, question, &inputs)
+    list_day(&rt, alloc, book, table, question, &inputs);
+    list_dates(&rt, alloc, book, table, question, &inputs);
 }
 
 #[test]
@@ -265,19 +226,17 @@ fn a_certificate_is_read(rt: HostRuntime) -> Result<(), CertFault> {
 }
 
 #[test]
-fn a_certificate_is_written(rt: HostRuntime) -> Result<(), Fail> {
+fn a_certificate_is_written(rt: HostRuntime) {
     let alloc = rt.alloc();
-    let cert = read_certificate(alloc, CERTIFICATE.as_bytes())?;
-    let written = write_certificate(alloc, &cert)?;
+    let cert = read_certificate(alloc, CERTIFICATE.as_bytes()).expect(&rt, "a certificate");
+    let written = write_certificate(alloc, &cert).expect(&rt, "a text");
     assert_eq!(rt; written.as_slice(), CERTIFICATE.as_bytes());
-    Ok(())
 }
 
 #[test]
-fn loaded_books(rt: HostRuntime) -> Result<(), Fail> {
+fn loaded_books(rt: HostRuntime) {
     let mut files = MemoryFiles::new(Vec::new(rt.alloc()), Vec::new(rt.alloc()));
-    let name = Text::from_str(rt.alloc(), "harmonics")?;
+    let name = Text::from_str(rt.alloc(), "harmonics").expect(&rt, "a name");
     let loaded = load_book(rt.alloc(), &mut files, &name, 1_000);
     assert_eq!(rt; loaded.err(), Some(LoadFault::Failed));
-    Ok(())
 }

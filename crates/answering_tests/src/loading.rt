@@ -7,6 +7,7 @@ use decimal_text::{Bytes, MOST_BYTES, Text};
 use harmonics_text::{BookFault, Why};
 use named_files::LoadFault;
 use std::alloc::{AllocError, Global};
+use std::process::Abort;
 use tide_answer::load_book;
 use tide_edge::{MemoryFiles, NamedFile};
 
@@ -41,18 +42,18 @@ fn add_file(
 }
 
 /// Appends the file `pier`, a bad one, and one of three pieces.
-fn add_files(alloc: Global, files: &mut Vec<NamedFile>) -> Result<(), AllocError> {
-    add_file(alloc, files, "pier", PIER)?;
-    add_file(alloc, files, "bad", BAD)?;
-    let long = long_file(alloc)?;
-    add_file(alloc, files, "long", &long)
+fn add_files(rt: &impl Abort, alloc: Global, files: &mut Vec<NamedFile>) {
+    add_file(rt, alloc, files, "pier", PIER);
+    add_file(rt, alloc, files, "bad", BAD);
+    let long = long_file(alloc).expect(rt, "a long text");
+    add_file(rt, alloc, files, "long", &long);
 }
 
-fn folder(alloc: Global, failing: u64) -> Result<MemoryFiles, AllocError> {
-    let fails = [failing].to_vec(alloc)?;
+fn folder(rt: &impl Abort, alloc: Global, failing: u64) -> MemoryFiles {
+    let fails = [failing].to_vec(alloc).expect(rt, "a schedule");
     let mut files = Vec::new(alloc);
-    let added = add_files(alloc, &mut files);
-    added.and(Ok(MemoryFiles::new(files, fails)))
+    add_files(rt, alloc, &mut files);
+    MemoryFiles::new(files, fails)
 }
 
 /// Returns the number of stations of the file `name`.
@@ -86,6 +87,7 @@ static LOADINGS: &[(&str, u64, u64, Result<usize, LoadFault>)] = &[
 
 /// Returns true if `expected` is what the file `name` of the folder loads.
 fn is_loaded(
+    rt: &impl Abort,
     alloc: Global,
     name: &str,
     limit: u64,
@@ -95,16 +97,14 @@ fn is_loaded(
     if limit > MOST_BYTES as u64 {
         return false;
     }
-    match folder(alloc, failing) {
-        Ok(mut files) => stations_loaded(alloc, &mut files, name, limit) == *expected,
-        Err(_) => false,
-    }
+    let mut files = folder(rt, alloc, failing);
+    stations_loaded(alloc, &mut files, name, limit) == *expected
 }
 
 #[test]
 fn a_book_is_loaded_in_pieces(rt: HostRuntime) {
     for (place, (name, limit, failing, expected)) in LOADINGS.iter().enumerate() {
-        let is_loaded = is_loaded(rt.alloc(), name, *limit, *failing, expected);
+        let is_loaded = is_loaded(&rt, rt.alloc(), name, *limit, *failing, expected);
         assert!(rt; is_loaded, "row {place}");
     }
 }

@@ -13,6 +13,7 @@ use harmonics_book::Units;
 use interval_search::Search;
 use station_table::{Basis, Offset, Slack};
 use std::alloc::{AllocError, Global};
+use std::process::Abort;
 
 /// A unit, an event's kind and level, and its name.
 const NAMES: &[(Units, Kind, i64, &str)] = &[
@@ -106,8 +107,8 @@ fn is_movable(event: &Event) -> bool
 
 /// A current's turns and slacks from half an hour before a midnight to ten minutes after the next.
 #[tactic(auto, unfolding(curve_law::specs::Cells::all_minutes))]
-fn current(alloc: Global) -> Result<Tracks, AllocError>
-    ensures { IfOk result (λ tracks. AreShort tracks) }
+fn current(rt: &impl Abort, alloc: Global) -> Tracks
+    ensures { AreShort result }
 {
     let turn = vec![in alloc;
         Cell::Quiet(29),
@@ -121,19 +122,21 @@ fn current(alloc: Global) -> Result<Tracks, AllocError>
         Cell::Quiet(358),
         Cell::Turn(Kind::High, 999962),
         Cell::Quiet(10),
-    ]?;
+    ]
+    .expect(rt, "turns");
     let slack = vec![in alloc;
         Cell::Quiet(209),
         Cell::Turn(Kind::EbbBegins, 8727),
         Cell::Quiet(360),
         Cell::Turn(Kind::FloodBegins, 0),
         Cell::Quiet(909),
-    ]?;
-    Ok(Tracks {
+    ]
+    .expect(rt, "slacks");
+    Tracks {
         turn: Cells::from_vec(turn),
         slack: Some(Cells::from_vec(slack)),
         mark: None,
-    })
+    }
 }
 
 /// Returns true if the events have these minutes, kinds and levels.
@@ -165,9 +168,9 @@ fn gate() -> Basis
     }))
 }
 
-fn merged_current(alloc: Global) -> Result<Events, AllocError> {
-    let tracks = current(alloc)?;
-    merged(alloc, &tracks, -30)
+fn merged_current(rt: &impl Abort, alloc: Global) -> Events {
+    let tracks = current(rt, alloc);
+    merged(alloc, &tracks, -30).expect(rt, "events")
 }
 
 fn are_shifted(alloc: Global, events: &Events) -> bool {
@@ -181,11 +184,10 @@ fn are_shifted(alloc: Global, events: &Events) -> bool {
 }
 
 #[test]
-fn currents_are_shifted(rt: HostRuntime) -> Result<(), AllocError> {
-    let events = merged_current(rt.alloc())?;
+fn currents_are_shifted(rt: HostRuntime) {
+    let events = merged_current(&rt, rt.alloc());
     assert_holds(&rt, events.as_slice().len() == 7, "events");
     assert_holds(&rt, are_shifted(rt.alloc(), &events), "shifted events");
-    Ok(())
 }
 
 #[test]
@@ -213,13 +215,12 @@ const MERGED: &[(i64, Kind, i64)] = &[
 ];
 
 #[test]
-fn events_come_one_at_a_time(rt: HostRuntime) -> Result<(), AllocError> {
+fn events_come_one_at_a_time(rt: HostRuntime) {
     let mut merge = line_and_ripple();
-    let events = taken(rt.alloc(), &mut merge)?;
+    let events = taken(rt.alloc(), &mut merge).expect(&rt, "events");
     assert_holds(&rt, are_events(events.as_slice(), MERGED), "events");
     assert_holds(&rt, merge.cells() == 6, "cells");
     assert_holds(&rt, merge.next().is_none(), "no further event");
-    Ok(())
 }
 
 /// The minute of each event, and the number of cells that the searches have found after it.

@@ -16,16 +16,15 @@ fn sines(rt: HostRuntime) {
 }
 
 #[test]
-fn station_curves(rt: HostRuntime) -> Result<(), Fail> {
+fn station_curves(rt: HostRuntime) {
     let text =
         b"1\nS2 30\n1999\n1\nS2\n0\n*END*\n1\nS2\n1\n*END*\nPier\n0:00 :UTC\n0 feet\nS2 1 0\n";
-    let book = read_book(rt.alloc(), text)?;
+    let book = read_book(rt.alloc(), text).expect(&rt, "a book");
     assert_eq!(rt; book.stations.as_slice().len(), 1);
-    let curve = StationCurve::new(rt.alloc(), &book, 0)?;
+    let curve = StationCurve::new(rt.alloc(), &book, 0).expect(&rt, "a curve");
     let (first, last) = (curve.first(), curve.last());
     assert!(rt; first < last);
     assert_eq!(rt; curve.millionths(first), 1_000_000);
-    Ok(())
 }
 
 #[test]

@@ -41,15 +41,13 @@ fn year_cells<C: Curve>(alloc: Global, curve: &mut C) -> Result<Cells, AllocErro
 }
 
 /// Returns the cells of a pier's turns over the year 2000, and the number of evaluations.
-fn pier_cells(alloc: Global) -> Result<(Cells, u64), AllocError>
-    ensures { IfOk result (λ found. all_minutes found.0 ≤ 6000000) }
+fn pier_cells(rt: &impl Abort, alloc: Global) -> (Cells, u64)
+    ensures { all_minutes result.0 ≤ 6000000 }
 {
-    let Ok(station) = pier(alloc, "0", "1") else {
-        return Err(AllocError);
-    };
+    let station = pier(alloc, "0", "1").expect(rt, "a station");
     let mut curve = TurnCurve::blended(&station);
-    let cells = year_cells(alloc, &mut curve)?;
-    Ok((cells, curve.evaluations()))
+    let cells = year_cells(alloc, &mut curve).expect(rt, "cells");
+    (cells, curve.evaluations())
 }
 
 fn merged_turns(alloc: Global, turn: Cells) -> Result<Events, AllocError>
@@ -89,57 +87,48 @@ fn check_merged(rt: &impl Abort, alloc: Global, events: &Events, turns: &Events)
     assert_holds(rt, are_moved(alloc, events), "moved turns");
 }
 
-fn check_cells(rt: &impl Abort, alloc: Global, cells: Cells) -> Result<(), AllocError>
+fn check_cells(rt: &impl Abort, alloc: Global, cells: Cells)
     requires { all_minutes cells ≤ 6000000 }
 {
-    let turns = track_events(alloc, &cells, BEGIN)?;
-    let events = merged_turns(alloc, cells)?;
+    let turns = track_events(alloc, &cells, BEGIN).expect(rt, "turns");
+    let events = merged_turns(alloc, cells).expect(rt, "merged turns");
     check_merged(rt, alloc, &events, &turns);
-    Ok(())
 }
 
 #[test]
-fn a_year_has_its_events(rt: HostRuntime) -> Result<(), AllocError> {
-    let (cells, evaluations) = pier_cells(rt.alloc())?;
+fn a_year_has_its_events(rt: HostRuntime) {
+    let (cells, evaluations) = pier_cells(&rt, rt.alloc());
     assert_holds(&rt, cells.as_slice().len() == 20_553, "cells");
     assert_holds(&rt, evaluations <= 20_554, "evaluations");
-    check_cells(&rt, rt.alloc(), cells)
+    check_cells(&rt, rt.alloc(), cells);
 }
 
-/// Returns the events of a curve in the year, found one at a time, and the number of their cells, or an
-/// error if the curve isn't valid there.
-fn one_by_one<C: Curve + Drop>(alloc: Global, curve: C) -> Result<(Vec<Event>, u64), AllocError> {
-    if !has_year(&curve) {
-        return Err(AllocError);
-    }
+/// Returns the events of a curve in the year, found one at a time, and the number of their cells. The curve
+/// is valid there.
+fn one_by_one<C: Curve + Drop>(rt: &impl Abort, alloc: Global, curve: C) -> (Vec<Event>, u64) {
+    assert!(rt; has_year(&curve));
     let mut merge: Merge<C, C> = Merge::new(Search::new(curve, BEGIN, END), None, None);
-    let events = taken(alloc, &mut merge)?;
-    Ok((events, merge.cells()))
+    let events = taken(alloc, &mut merge).expect(rt, "events");
+    (events, merge.cells())
 }
 
-fn are_turns(alloc: Global, station: &StationCurve) -> bool {
-    match one_by_one(alloc, TurnCurve::blended(station)) {
-        Ok((events, cells)) => is_a_year(events.as_slice()) && cells == 20_553,
-        Err(_) => false,
-    }
+fn check_turns(rt: &impl Abort, alloc: Global, station: &StationCurve) {
+    let (events, cells) = one_by_one(rt, alloc, TurnCurve::blended(station));
+    assert_holds(rt, is_a_year(events.as_slice()), "turns");
+    assert_holds(rt, cells == 20_553, "cells of turns");
 }
 
-fn are_marks(alloc: Global, station: &StationCurve) -> bool {
+fn check_marks(rt: &impl Abort, alloc: Global, station: &StationCurve) {
     let mark = MarkCurve::blended(station, 1_000_000, 0, 500_000, false);
-    match one_by_one(alloc, mark) {
-        Ok((events, cells)) => events.len() == 1_464 && cells == 19_767,
-        Err(_) => false,
-    }
-}
-
-fn check_one_by_one(rt: &impl Abort, alloc: Global, station: &StationCurve) {
-    assert_holds(rt, are_turns(alloc, station), "turns");
-    assert_holds(rt, are_marks(alloc, station), "marks");
+    let (events, cells) = one_by_one(rt, alloc, mark);
+    assert_holds(rt, events.len() == 1_464, "marks");
+    assert_holds(rt, cells == 19_767, "cells of marks");
 }
 
 #[test]
 fn a_year_comes_one_event_at_a_time(rt: HostRuntime) -> Result<(), CurveFault> {
     let station = pier(rt.alloc(), "0", "1")?;
-    check_one_by_one(&rt, rt.alloc(), &station);
+    check_turns(&rt, rt.alloc(), &station);
+    check_marks(&rt, rt.alloc(), &station);
     Ok(())
 }

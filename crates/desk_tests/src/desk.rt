@@ -16,7 +16,6 @@ use rows::*;
 use sample_tides::{DAY, PIER, words_of};
 use std::alloc::{AllocError, Global};
 use std::process::Abort;
-use std::test::Fail;
 use tide_answer::Status;
 use tide_desk::run;
 use tide_edge::{FixedClock, MemoryFiles, MemorySink, NamedFile};
@@ -106,41 +105,55 @@ fn behind(alloc: Global, length: usize, text: &str) -> Result<Vec<u8>, AllocErro
     Ok(bytes)
 }
 
-fn file_of(alloc: Global, name: &str, source: &Source<'_>) -> Result<NamedFile, AllocError> {
-    let bytes = match *source {
-        Source::Line(text, line, other) => with_line(alloc, text, line, other)?,
-        Source::Behind(length, text) => behind(alloc, length, text)?,
-        Source::Bytes(bytes) => bytes.to_vec(alloc)?,
-    };
-    Ok(NamedFile {
-        name: Text::from_str(alloc, name)?,
-        bytes: Bytes::from_vec(bytes),
-    })
+fn bytes_of(alloc: Global, source: &Source<'_>) -> Result<Vec<u8>, AllocError> {
+    match *source {
+        Source::Line(text, line, other) => with_line(alloc, text, line, other),
+        Source::Behind(length, text) => behind(alloc, length, text),
+        Source::Bytes(bytes) => bytes.to_vec(alloc),
+    }
 }
 
-fn files_of(alloc: Global, case: &Case<'_>) -> Result<Vec<NamedFile>, AllocError> {
-    let mut held = Vec::new(alloc);
-    held.push(file_of(alloc, "pier.txt", &case.file)?)?;
-    for (name, source) in case.more {
-        held.push(file_of(alloc, name, source)?)?;
+fn file_of(rt: &impl Abort, alloc: Global, name: &str, source: &Source<'_>) -> NamedFile {
+    let name = Text::from_str(alloc, name).expect(rt, "a name");
+    let bytes = bytes_of(alloc, source).expect(rt, "a text");
+    NamedFile {
+        name,
+        bytes: Bytes::from_vec(bytes),
     }
-    Ok(held)
+}
+
+fn files_of(rt: &impl Abort, alloc: Global, case: &Case<'_>) -> Vec<NamedFile> {
+    let mut held = Vec::new(alloc);
+    held.push(file_of(rt, alloc, "pier.txt", &case.file))
+        .expect(rt, "files");
+    for (name, source) in case.more {
+        held.push(file_of(rt, alloc, name, source))
+            .expect(rt, "files");
+    }
+    held
+}
+
+/// Returns the schedule of an object whose call with this number fails.
+fn schedule_of(rt: &impl Abort, alloc: Global, fails: u64) -> Vec<u64> {
+    [fails].to_vec(alloc).expect(rt, "a schedule")
 }
 
 /// Returns an output that takes at most `most` bytes in a write.
-fn sink_of(alloc: Global, most: u64, capacity: u64, fails: u64) -> Result<MemorySink, AllocError> {
-    MemorySink::new(alloc, most.max(1), capacity, [fails].to_vec(alloc)?)
+fn sink_of(rt: &impl Abort, alloc: Global, most: u64, capacity: u64, fails: u64) -> MemorySink {
+    let fails = schedule_of(rt, alloc, fails);
+    MemorySink::new(alloc, most.max(1), capacity, fails).expect(rt, "a sink")
 }
 
 /// Returns the files and the outputs of a case, and a clock at 2000-01-10T03:00Z.
-fn desk_of(alloc: Global, case: &Case<'_>) -> Result<Desk, AllocError> {
+fn desk_of(rt: &impl Abort, alloc: Global, case: &Case<'_>) -> Desk {
     let fails = case.fails;
-    Ok(Desk {
-        files: MemoryFiles::new(files_of(alloc, case)?, [fails.files].to_vec(alloc)?),
-        out: sink_of(alloc, case.most, 1_000_000, fails.out)?,
-        err: sink_of(alloc, case.most, 4096, fails.err)?,
-        clock: FixedClock::new(15_791_220, [fails.clock].to_vec(alloc)?),
-    })
+    let files = files_of(rt, alloc, case);
+    Desk {
+        files: MemoryFiles::new(files, schedule_of(rt, alloc, fails.files)),
+        out: sink_of(rt, alloc, case.most, 1_000_000, fails.out),
+        err: sink_of(rt, alloc, case.most, 4096, fails.err),
+        clock: FixedClock::new(15_791_220, schedule_of(rt, alloc, fails.clock)),
+    }
 }
 
 /// Adds a sheet of each kind.
@@ -158,12 +171,12 @@ fn add_sheets(
     Ok(())
 }
 
-fn run_case(alloc: Global, case: &Case<'_>, desk: &mut Desk) -> Result<u8, AllocError> {
-    let words = words_of(alloc, case.words)?;
+fn run_case(rt: &impl Abort, alloc: Global, case: &Case<'_>, desk: &mut Desk) -> u8 {
+    let words = words_of(alloc, case.words).expect(rt, "words");
     let mut sheets = Vec::new(alloc);
-    add_sheets(alloc, case.is_short, &mut sheets)?;
+    add_sheets(alloc, case.is_short, &mut sheets).expect(rt, "sheets");
     let (files, out, err) = (&mut desk.files, &mut desk.out, &mut desk.err);
-    Ok(run(alloc, &words, files, out, err, &mut desk.clock, sheets).number())
+    run(alloc, &words, files, out, err, &mut desk.clock, sheets).number()
 }
 
 /// Asserts the status of a run, and what it wrote to `out` and to `err`.
@@ -184,31 +197,27 @@ fn assert_left(rt: &impl Abort, status: u8, desk: &Desk, case: &Case<'_>) {
     );
 }
 
-fn judge(rt: &impl Abort, alloc: Global, case: &Case<'_>) -> Result<(), AllocError> {
-    let mut desk = desk_of(alloc, case)?;
-    let status = run_case(alloc, case, &mut desk)?;
+fn judge(rt: &impl Abort, alloc: Global, case: &Case<'_>) {
+    let mut desk = desk_of(rt, alloc, case);
+    let status = run_case(rt, alloc, case, &mut desk);
     assert_left(rt, status, &desk, case);
-    Ok(())
 }
 
-fn judge_all(rt: &impl Abort, alloc: Global, cases: &[Case<'_>]) -> Result<(), AllocError> {
+fn judge_all(rt: &impl Abort, alloc: Global, cases: &[Case<'_>]) {
     for case in cases {
-        judge(rt, alloc, case)?;
+        judge(rt, alloc, case);
     }
-    Ok(())
 }
 
 #[test]
-fn runs_have_their_outcomes(rt: HostRuntime) -> Result<(), Fail> {
-    judge_all(&rt, rt.alloc(), &ANSWERS)?;
-    judge_all(&rt, rt.alloc(), &refusals::REFUSALS)?;
-    judge_all(&rt, rt.alloc(), &files::FILES)?;
-    judge_all(&rt, rt.alloc(), &reports::REPORTS)?;
-    Ok(())
+fn runs_have_their_outcomes(rt: HostRuntime) {
+    judge_all(&rt, rt.alloc(), &ANSWERS);
+    judge_all(&rt, rt.alloc(), &refusals::REFUSALS);
+    judge_all(&rt, rt.alloc(), &files::FILES);
+    judge_all(&rt, rt.alloc(), &reports::REPORTS);
 }
 
 #[test]
-fn files_have_limits(rt: HostRuntime) -> Result<(), Fail> {
-    judge_all(&rt, rt.alloc(), &files::LIMITS)?;
-    Ok(())
+fn files_have_limits(rt: HostRuntime) {
+    judge_all(&rt, rt.alloc(), &files::LIMITS);
 }

@@ -1,6 +1,6 @@
 //! Calendars for other programs.
 
-ghost use Rattle.std.specs.Prelude.{◌≡◌, IfOk, IsTrue};
+ghost use Rattle.std.specs.Prelude.{◌≡◌, IsTrue};
 ghost use Rattle.harmonics_book.specs.declared.book.Units.{Units};
 ghost use Rattle.ical_sheet.specs.Folding.{IsContentLine};
 
@@ -31,20 +31,18 @@ const TIDE: &[Item] = &[
 const NOW: i64 = 15_791_220;
 
 /// Returns a sheet that is opened for a station's name at a minute, with a limit.
-fn opened(alloc: Global, name: &str, now: i64, limit: u32) -> Result<IcalSheet, AllocError>
-    ensures { IfOk result (λ sheet. (⟦<IcalSheet as Sheet>⟧.heading sheet).units ≡ Units.Feet) }
+fn opened(rt: &impl Abort, alloc: Global, name: &str, now: i64, limit: u32) -> IcalSheet
+    ensures { (⟦<IcalSheet as Sheet>⟧.heading result).units ≡ Units.Feet }
 {
-    if !is_printable(name) || !(1..=1_000_000).contains(&limit) {
-        return Err(AllocError);
-    }
-    let mut sheet = IcalSheet::new(alloc, limit);
+    assert!(rt; is_printable(name) && (1..=1_000_000).contains(&limit));
     let head = Head {
-        name: Text::from_str(alloc, name)?,
+        name: Text::from_str(alloc, name).expect(rt, "a name"),
         units: Units::Feet,
         now,
     };
-    sheet.open(&head)?;
-    Ok(sheet)
+    let mut sheet = IcalSheet::new(alloc, limit);
+    sheet.open(&head).expect(rt, "a sheet");
+    sheet
 }
 
 /// Passes events to `sheet`, and returns the number of events that it accepted.
@@ -68,9 +66,15 @@ fn give(sheet: &mut IcalSheet, items: &[Item]) -> Result<u32, AllocError>
     Ok(kept)
 }
 
-fn calendar(alloc: Global, name: &str, now: i64, items: &[Item]) -> Result<Bytes, AllocError> {
-    let mut sheet = opened(alloc, name, now, 100_000)?;
-    give(&mut sheet, items)?;
+fn calendar(
+    rt: &impl Abort,
+    alloc: Global,
+    name: &str,
+    now: i64,
+    items: &[Item],
+) -> Result<Bytes, AllocError> {
+    let mut sheet = opened(rt, alloc, name, now, 100_000);
+    give(&mut sheet, items).expect(rt, "events");
     sheet.text()
 }
 
@@ -139,8 +143,8 @@ const CALENDAR: &str =
 #[test]
 fn the_day_of_a_small_file_is_a_calendar(rt: HostRuntime) {
     let alloc = rt.alloc();
-    assert!(rt; is_text(calendar(alloc, "Pier", NOW, TIDE), CALENDAR));
-    assert!(rt; is_text(calendar(alloc, "Pier", NOW, &[]), ""));
+    assert!(rt; is_text(calendar(&rt, alloc, "Pier", NOW, TIDE), CALENDAR));
+    assert!(rt; is_text(calendar(&rt, alloc, "Pier", NOW, &[]), ""));
 }
 
 /// A number of letters, and the lengths of their folded lines.
@@ -216,17 +220,17 @@ static NAMES: &[(&str, &str)] = &[
 ];
 
 /// Returns true if the calendar of a tide has a part.
-fn has_part(alloc: Global, name: &str, now: i64, part: &str) -> bool {
-    match calendar(alloc, name, now, TIDE) {
+fn has_part(rt: &impl Abort, alloc: Global, name: &str, now: i64, part: &str) -> bool {
+    match calendar(rt, alloc, name, now, TIDE) {
         Ok(text) => holds(text.as_slice(), part),
         Err(_) => false,
     }
 }
 
 /// Returns true if the calendar of a tide has a summary of this name.
-fn has_summary(alloc: Global, name: &str, expected: &str) -> bool {
+fn has_summary(rt: &impl Abort, alloc: Global, name: &str, expected: &str) -> bool {
     match format!(in alloc; "\r\nSUMMARY:{expected} Low Tide -1.00 feet\r\n") {
-        Ok(summary) => has_part(alloc, name, NOW, summary.as_str()),
+        Ok(summary) => has_part(rt, alloc, name, NOW, summary.as_str()),
         Err(_) => false,
     }
 }
@@ -236,7 +240,7 @@ fn names_are_escaped(rt: HostRuntime) {
     let alloc = rt.alloc();
     for &(name, expected) in NAMES {
         assert_holds(&rt, is_text(escape_name(alloc, name), expected), name);
-        assert_holds(&rt, has_summary(alloc, name, expected), name);
+        assert_holds(&rt, has_summary(&rt, alloc, name, expected), name);
     }
 }
 
@@ -264,21 +268,19 @@ fn check_long_name(rt: &impl Abort, alloc: Global, text: &[u8], name: &str, digi
 }
 
 #[test]
-fn a_long_name_is_folded_between_its_letters(rt: HostRuntime) -> Result<(), AllocError> {
+fn a_long_name_is_folded_between_its_letters(rt: HostRuntime) {
     let alloc = rt.alloc();
-    let name = "\u{e9}".repeat(alloc, 200)?;
-    let digits = "c3a9".repeat(alloc, 200)?;
-    let text = calendar(alloc, name.as_str(), NOW, TIDE)?;
+    let name = "\u{e9}".repeat(alloc, 200).expect(&rt, "a name");
+    let digits = "c3a9".repeat(alloc, 200).expect(&rt, "digits");
+    let text = calendar(&rt, alloc, name.as_str(), NOW, TIDE).expect(&rt, "a calendar");
     check_long_name(&rt, alloc, text.as_slice(), name.as_str(), digits.as_str());
-    Ok(())
 }
 
-/// Returns the text of a sheet with a limit of 2, if it accepted two events.
-fn full_sheet(alloc: Global) -> Result<Bytes, AllocError> {
-    let mut sheet = opened(alloc, "Pier", NOW, 2)?;
-    if give(&mut sheet, TIDE)? != 2 {
-        return Err(AllocError);
-    }
+/// Returns the text of a sheet with a limit of 2, which accepted two events.
+fn full_sheet(rt: &impl Abort, alloc: Global) -> Result<Bytes, AllocError> {
+    let mut sheet = opened(rt, alloc, "Pier", NOW, 2);
+    let kept = give(&mut sheet, TIDE).expect(rt, "events");
+    assert!(rt; kept == 2);
     sheet.text()
 }
 
@@ -289,11 +291,10 @@ fn is_named(alloc: Global, word: &str) -> Option<bool> {
 }
 
 #[test]
-fn a_full_sheet_has_the_first_events(rt: HostRuntime) -> Result<(), AllocError> {
-    let text = full_sheet(rt.alloc())?;
-    let two = calendar(rt.alloc(), "Pier", NOW, &TIDE[..2])?;
+fn a_full_sheet_has_the_first_events(rt: HostRuntime) {
+    let text = full_sheet(&rt, rt.alloc()).expect(&rt, "a text");
+    let two = calendar(&rt, rt.alloc(), "Pier", NOW, &TIDE[..2]).expect(&rt, "a calendar");
     assert!(rt; text.as_slice() == two.as_slice());
-    Ok(())
 }
 
 #[test]
@@ -314,7 +315,7 @@ static STAMPS: &[(i64, &str)] = &[
 #[test]
 fn clocks_are_kept_within_the_years(rt: HostRuntime) {
     for &(now, stamp) in STAMPS {
-        assert_holds(&rt, has_part(rt.alloc(), "Pier", now, stamp), now);
+        assert_holds(&rt, has_part(&rt, rt.alloc(), "Pier", now, stamp), now);
     }
 }
 

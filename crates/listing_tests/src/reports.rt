@@ -1,6 +1,7 @@
 //! Reports of several sheets.
 
 ghost use Rattle.std.specs.Prelude.{◌≢◌, ◌≤◌, All, IsTrue};
+ghost use Rattle.report_sheets.specs.Sheets.{IsLimit};
 
 use crate::asserts::assert_holds;
 use crate::lists::{TIDE, events_of, is_text};
@@ -22,23 +23,21 @@ pub fn is_printable(name: &str) -> bool
     name.as_bytes().iter().all(|b| *b >= 32 && *b != 127)
 }
 
-/// Returns the text of the sheets whose words are in `wanted`, separated by '|', or an error if the name
-/// or an event can't be listed.
+/// Returns the text of the sheets whose words are in `wanted`, separated by '|', or an error if a call of a
+/// sheet fails. The name and the events can be listed.
 fn report(
+    rt: &impl Abort,
     alloc: Global,
     sheets: Vec<Box<dyn Sheet>>,
     wanted: &str,
     name: &str,
     items: &[(i64, Kind, i64)],
 ) -> Result<Bytes, AllocError> {
-    if !is_printable(name) {
-        return Err(AllocError);
-    }
-    let name = Text::from_str(alloc, name)?;
-    let events = events_of(alloc, Units::Feet, items)?;
-    let words = words_of(alloc, wanted)?;
+    assert!(rt; is_printable(name));
+    let events = events_of(alloc, Units::Feet, items).expect(rt, "events");
+    let words = words_of(alloc, wanted).expect(rt, "words");
     let head = Head {
-        name,
+        name: Text::from_str(alloc, name).expect(rt, "a name"),
         units: Units::Feet,
         now: 15791220,
     };
@@ -46,8 +45,9 @@ fn report(
 }
 
 /// Returns the text of the three sheets of the program; the first limit is the one of `first`, the second
-/// the one of the other two.
+/// the one of the other two. Both are from 1 to 1,000,000.
 fn report_of_three(
+    rt: &impl Abort,
     alloc: Global,
     limits: (u32, u32),
     wanted: &str,
@@ -55,14 +55,15 @@ fn report_of_three(
     items: &[(i64, Kind, i64)],
 ) -> Result<Bytes, AllocError> {
     let (limit, first) = limits;
-    if !(1..=1_000_000).contains(&limit) || !(1..=1_000_000).contains(&first) {
-        return Err(AllocError);
-    }
+    assert!(rt; (1..=1_000_000).contains(&limit) && (1..=1_000_000).contains(&first));
+    let tally = Box::new(alloc, Tally::new(alloc, limit)).expect(rt, "a sheet");
+    let ranges = Box::new(alloc, Ranges::new(alloc, limit)).expect(rt, "a sheet");
+    let lines = Box::new(alloc, FirstLines::new(alloc, first)).expect(rt, "a sheet");
     let mut sheets: Vec<Box<dyn Sheet>> = Vec::new(alloc);
-    sheets.push(Box::new(alloc, Tally::new(alloc, limit))?)?;
-    sheets.push(Box::new(alloc, Ranges::new(alloc, limit))?)?;
-    sheets.push(Box::new(alloc, FirstLines::new(alloc, first))?)?;
-    report(alloc, sheets, wanted, name, items)
+    sheets.push(tally).expect(rt, "sheets");
+    sheets.push(ranges).expect(rt, "sheets");
+    sheets.push(lines).expect(rt, "sheets");
+    report(rt, alloc, sheets, wanted, name, items)
 }
 
 /// Returns true if a text consists of these parts.
@@ -114,13 +115,14 @@ fn has_parts(made: Result<Bytes, AllocError>, parts: &[&str]) -> bool {
 #[test]
 fn reports_are_filled(rt: HostRuntime) {
     for &(wanted, limit, parts) in REPORTS {
-        let text = report_of_three(rt.alloc(), (1_000_000, limit), wanted, "Pier", TIDE);
+        let limits = (1_000_000, limit);
+        let text = report_of_three(&rt, rt.alloc(), limits, wanted, "Pier", TIDE);
         assert_holds(&rt, has_parts(text, parts), wanted);
     }
 }
 
 fn check_empty_lists(rt: &impl Abort, alloc: Global, name: &str) {
-    let text = report_of_three(alloc, (1, 1), "first|range|tally", name, &[]);
+    let text = report_of_three(rt, alloc, (1, 1), "first|range|tally", name, &[]);
     let parts = [name, "\n", name, "\n", name, "\n"];
     assert!(rt; has_parts(text, &parts));
 }
@@ -132,25 +134,42 @@ fn empty_lists_leave_the_name(rt: HostRuntime) -> Result<(), AllocError> {
     Ok(())
 }
 
+/// Returns a counter on the heap.
+fn counter(rt: &impl Abort, alloc: Global, word: &str, limit: u32) -> Box<Counter>
+    requires { IsLimit limit }
+{
+    let counter = Counter::new(alloc, word, limit).expect(rt, "a counter");
+    Box::new(alloc, counter).expect(rt, "a sheet")
+}
+
 #[test]
-fn sheets_of_any_kind_are_filled(rt: HostRuntime) -> Result<(), AllocError> {
+fn sheets_of_any_kind_are_filled(rt: HostRuntime) {
     let alloc = rt.alloc();
     let mut sheets: Vec<Box<dyn Sheet>> = Vec::new(alloc);
-    sheets.push(Box::new(alloc, Counter::new(alloc, "few", 1)?)?)?;
-    sheets.push(Box::new(alloc, Counter::new(alloc, "four", 4)?)?)?;
-    sheets.push(Box::new(alloc, Counter::new(alloc, "none", 9)?)?)?;
-    sheets.push(Box::new(alloc, Counter::new(alloc, "many", 1_000_000)?)?)?;
-    let text = report(alloc, sheets, "many|four|few", "Pier", TIDE);
+    sheets
+        .push(counter(&rt, alloc, "few", 1))
+        .expect(&rt, "sheets");
+    sheets
+        .push(counter(&rt, alloc, "four", 4))
+        .expect(&rt, "sheets");
+    sheets
+        .push(counter(&rt, alloc, "none", 9))
+        .expect(&rt, "sheets");
+    sheets
+        .push(counter(&rt, alloc, "many", 1_000_000))
+        .expect(&rt, "sheets");
+    let text = report(&rt, alloc, sheets, "many|four|few", "Pier", TIDE);
     assert!(rt; is_text(text, "few 1\nfour 4\nmany 4\n"));
-    Ok(())
 }
 
 /// Returns the text of a sheet whose call `at` runs out of memory, and of one before it.
-fn refused(alloc: Global, at: Option<Refusal>) -> Result<Bytes, AllocError> {
+fn refused(rt: &impl Abort, alloc: Global, at: Option<Refusal>) -> Result<Bytes, AllocError> {
+    let tally = Box::new(alloc, Tally::new(alloc, 4)).expect(rt, "a sheet");
+    let refusing = Box::new(alloc, Refusing::new(alloc, at)).expect(rt, "a sheet");
     let mut sheets: Vec<Box<dyn Sheet>> = Vec::new(alloc);
-    sheets.push(Box::new(alloc, Tally::new(alloc, 4))?)?;
-    sheets.push(Box::new(alloc, Refusing::new(alloc, at))?)?;
-    report(alloc, sheets, "tally|refusing", "Pier", TIDE)
+    sheets.push(tally).expect(rt, "sheets");
+    sheets.push(refusing).expect(rt, "sheets");
+    report(rt, alloc, sheets, "tally|refusing", "Pier", TIDE)
 }
 
 static CALLS: &[(Refusal, &str)] = &[
@@ -162,10 +181,10 @@ static CALLS: &[(Refusal, &str)] = &[
 /// The same report has its text if no call fails, so the error is due to the sheet.
 #[test]
 fn refusals_leave_no_text(rt: HostRuntime) {
-    let kept = refused(rt.alloc(), None);
+    let kept = refused(&rt, rt.alloc(), None);
     assert!(rt; is_text(kept, "Pier\n2 High Tide\n2 Low Tide\nkept"));
     for &(at, call) in CALLS {
-        assert_holds(&rt, refused(rt.alloc(), Some(at)).is_err(), call);
+        assert_holds(&rt, refused(&rt, rt.alloc(), Some(at)).is_err(), call);
     }
 }
 
@@ -197,13 +216,15 @@ fn check_missing(rt: &impl Abort, alloc: Global, sheets: &Vec<Box<dyn Sheet>>) {
 }
 
 #[test]
-fn unknown_words_are_missing(rt: HostRuntime) -> Result<(), AllocError> {
+fn unknown_words_are_missing(rt: HostRuntime) {
     let alloc = rt.alloc();
+    let tally = Box::new(alloc, Tally::new(alloc, 4)).expect(&rt, "a sheet");
     let mut sheets: Vec<Box<dyn Sheet>> = Vec::new(alloc);
-    sheets.push(Box::new(alloc, Tally::new(alloc, 4))?)?;
-    sheets.push(Box::new(alloc, Counter::new(alloc, "few", 1)?)?)?;
+    sheets.push(tally).expect(&rt, "sheets");
+    sheets
+        .push(counter(&rt, alloc, "few", 1))
+        .expect(&rt, "sheets");
     check_missing(&rt, alloc, &sheets);
-    Ok(())
 }
 
 #[test]

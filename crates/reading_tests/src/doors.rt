@@ -1,6 +1,6 @@
 //! Doors in memory, and a port of the machine.
 
-ghost use Rattle.std.specs.Prelude.{◌≡◌, false, IsTrue, IfOk};
+ghost use Rattle.std.specs.Prelude.{◌≡◌, false, IsTrue};
 ghost use Rattle.std.specs.List.{list_all};
 ghost use Rattle.tide_edge.specs.Adapters.{held_by};
 ghost use Rattle.tide_edge.specs.Doors.{not_listening};
@@ -8,11 +8,10 @@ ghost use Rattle.tide_edge.specs.Memory.{are_pieces};
 
 use crate::asserts::assert_holds;
 use decimal_text::Bytes;
-use std::alloc::{AllocError, Global};
+use std::alloc::Global;
 use std::io::{Read, Write};
 use std::net::{Ipv4Addr, TcpStream};
 use std::process::Abort;
-use std::test::Fail;
 use tide_edge::{Door, Failed, HostDoor, MemoryDoor};
 
 /// Accepts one connection, and sends back the first bytes that are read over it.
@@ -37,16 +36,18 @@ fn echo<D: Door>(door: &mut D) -> Result<bool, Failed>
 }
 
 /// Returns a request in two pieces, and one without a byte.
-fn requests(alloc: Global) -> Result<Vec<Vec<Bytes>>, AllocError>
-    ensures { IfOk result (λ requests. IsTrue (list_all (λ request. are_pieces request.items) requests.items)) }
+fn requests(rt: &impl Abort, alloc: Global) -> Vec<Vec<Bytes>>
+    ensures { IsTrue (list_all (λ request. are_pieces request.items) result.items) }
 {
+    let first = b"pier".to_vec(alloc).expect(rt, "a piece");
+    let second = b" files".to_vec(alloc).expect(rt, "a piece");
     let mut pieces = Vec::new(alloc);
-    pieces.push(Bytes::from_vec(b"pier".to_vec(alloc)?))?;
-    pieces.push(Bytes::from_vec(b" files".to_vec(alloc)?))?;
+    pieces.push(Bytes::from_vec(first)).expect(rt, "pieces");
+    pieces.push(Bytes::from_vec(second)).expect(rt, "pieces");
     let mut requests = Vec::new(alloc);
-    requests.push(pieces)?;
-    requests.push(Vec::new(alloc))?;
-    Ok(requests)
+    requests.push(pieces).expect(rt, "requests");
+    requests.push(Vec::new(alloc)).expect(rt, "requests");
+    requests
 }
 
 /// Returns the outcomes of three connections.
@@ -79,26 +80,25 @@ fn has_replies(door: &MemoryDoor, first: &str) -> bool {
 
 /// Returns a door, with a capacity of `capacity` bytes for all replies, at which the call with the number
 /// `failing` fails.
-fn memory_door(alloc: Global, capacity: u64, failing: u64) -> Result<MemoryDoor, AllocError>
-    ensures { IfOk result (λ door. (held_by door).listener_state ≡ not_listening) }
+fn memory_door(rt: &impl Abort, alloc: Global, capacity: u64, failing: u64) -> MemoryDoor
+    ensures { (held_by result).listener_state ≡ not_listening }
 {
-    let fails = [failing].to_vec(alloc)?;
-    let requests = requests(alloc)?;
-    MemoryDoor::new(alloc, requests, capacity, fails)
+    let fails = [failing].to_vec(alloc).expect(rt, "a schedule");
+    let requests = requests(rt, alloc);
+    MemoryDoor::new(alloc, requests, capacity, fails).expect(rt, "a door")
 }
 
 /// Returns true if such a door has those outcomes and replies.
 fn is_served(
+    rt: &impl Abort,
     alloc: Global,
     capacity: u64,
     failing: u64,
     expected: &[Result<bool, Failed>; 3],
     first: &str,
 ) -> bool {
-    match memory_door(alloc, capacity, failing) {
-        Ok(mut door) => gives(&mut door, expected) && has_replies(&door, first),
-        Err(_) => false,
-    }
+    let mut door = memory_door(rt, alloc, capacity, failing);
+    gives(&mut door, expected) && has_replies(&door, first)
 }
 
 /// Returns true if `door`, listening, has those outcomes.
@@ -114,23 +114,23 @@ fn gives(door: &mut MemoryDoor, expected: &[Result<bool, Failed>; 3]) -> bool
 #[test]
 fn a_door_in_memory_fails_as_required(rt: HostRuntime) {
     for (place, (capacity, failing, expected, first)) in DOORS.iter().enumerate() {
-        let is_served = is_served(rt.alloc(), *capacity, *failing, expected, first);
+        let is_served = is_served(&rt, rt.alloc(), *capacity, *failing, expected, first);
         assert_holds(&rt, is_served, place);
     }
 }
 
 /// Returns a door without requests, at which the call with the number `failing` fails.
-fn shut_door(alloc: Global, failing: u64) -> Result<MemoryDoor, AllocError>
-    ensures { IfOk result (λ door. (held_by door).listener_state ≡ not_listening) }
+fn shut_door(rt: &impl Abort, alloc: Global, failing: u64) -> MemoryDoor
+    ensures { (held_by result).listener_state ≡ not_listening }
 {
-    MemoryDoor::new(alloc, Vec::new(alloc), 0, [failing].to_vec(alloc)?)
+    let fails = [failing].to_vec(alloc).expect(rt, "a schedule");
+    MemoryDoor::new(alloc, Vec::new(alloc), 0, fails).expect(rt, "a door")
 }
 
 #[test]
-fn a_shut_door_fails(rt: HostRuntime) -> Result<(), AllocError> {
-    let mut shut = shut_door(rt.alloc(), 1)?;
+fn a_shut_door_fails(rt: HostRuntime) {
+    let mut shut = shut_door(&rt, rt.alloc(), 1);
     assert!(rt; shut.listen(80) == Err(Failed));
-    Ok(())
 }
 
 /// Returns true if the unread bytes of `peer` are `expected`.
@@ -140,24 +140,19 @@ fn rest_is<P: Read>(alloc: Global, peer: &mut P, expected: &[u8]) -> bool {
 }
 
 /// Sends bytes over `peer` to `door`, which sends them back.
-fn check_echo<D: Door, P: Read + Write>(
-    rt: &impl Abort,
-    alloc: Global,
-    door: &mut D,
-    peer: &mut P,
-) -> Result<(), Fail>
+fn check_echo<D: Door, P: Read + Write>(rt: &impl Abort, alloc: Global, door: &mut D, peer: &mut P)
     requires listens { IsTrue (D.state door.old).listener_state.listens }
     requires none_open { (D.state door.old).listener_state.is_open ≡ false }
 {
-    peer.write_all(b"pier")?;
+    peer.write_all(b"pier").expect(rt, "a write");
     assert!(rt; echo(door) == Ok(true));
     assert!(rt; rest_is(alloc, peer, b"pier"));
-    Ok(())
 }
 
 /// Returns true if the port is in use.
-fn is_taken(system: &HostRuntime, port: u16) -> Result<bool, Fail> {
-    Ok(HostDoor::new(system.clone()?).listen(port) == Err(Failed))
+fn is_taken(rt: &impl Abort, system: &HostRuntime, port: u16) -> bool {
+    let mut door = HostDoor::new(system.clone().expect(rt, "a handle"));
+    door.listen(port) == Err(Failed)
 }
 
 /// Returns false if `door` can't listen on `port`.
@@ -166,25 +161,25 @@ fn takes_connection(
     system: &HostRuntime,
     door: &mut HostDoor<HostRuntime>,
     port: u16,
-) -> Result<bool, Fail>
+) -> bool
     requires { (⟦<HostDoor<HostRuntime> as Door>⟧.state door.old).listener_state ≡ not_listening }
 {
     if door.listen(port).is_err() {
-        return Ok(false);
+        return false;
     }
-    assert!(rt; is_taken(system, port)?);
-    let mut peer = TcpStream::connect(system, (Ipv4Addr::LOCALHOST, port))?;
-    check_echo(rt, system.alloc(), door, &mut peer)?;
-    Ok(true)
+    assert!(rt; is_taken(rt, system, port));
+    let mut peer = TcpStream::connect(system, (Ipv4Addr::LOCALHOST, port)).expect(rt, "a peer");
+    check_echo(rt, system.alloc(), door, &mut peer);
+    true
 }
 
 #[test]
-fn a_port_of_the_machine_takes_a_connection(rt: HostRuntime) -> Result<(), Fail> {
+fn a_port_of_the_machine_takes_a_connection(rt: HostRuntime) {
     for port in 47_100..47_200 {
-        let mut door = HostDoor::new(rt.clone()?);
-        if takes_connection(&rt, &rt, &mut door, port)? {
-            return Ok(());
+        let mut door = HostDoor::new(rt.clone().expect(&rt, "a handle"));
+        if takes_connection(&rt, &rt, &mut door, port) {
+            return;
         }
     }
-    Err("no port is free")?
+    assert_holds(&rt, false, "no port is free");
 }

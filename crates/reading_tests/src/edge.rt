@@ -20,29 +20,30 @@ const PIER: [u8; 10] = *b"pier files";
 
 /// Appends the file `name` to `files`.
 pub fn add_file(
+    rt: &impl Abort,
     alloc: Global,
     files: &mut Vec<NamedFile>,
     name: &str,
     bytes: &[u8],
-) -> Result<(), AllocError> {
-    let name = Text::from_str(alloc, name)?;
-    let bytes = Bytes::from_vec(bytes.to_vec(alloc)?);
-    Ok(files.push(NamedFile { name, bytes })?)
+) {
+    let name = Text::from_str(alloc, name).expect(rt, "a name");
+    let bytes = Bytes::from_vec(bytes.to_vec(alloc).expect(rt, "a text"));
+    files.push(NamedFile { name, bytes }).expect(rt, "files");
 }
 
 /// Appends the file `pier`, another one that can't be opened, and a long one.
-fn add_files(alloc: Global, files: &mut Vec<NamedFile>) -> Result<(), AllocError> {
-    add_file(alloc, files, "pier", &PIER)?;
-    add_file(alloc, files, "pier", b"hidden")?;
-    let long = vec![in alloc; 7; 131_073]?;
-    add_file(alloc, files, "long", &long)
+fn add_files(rt: &impl Abort, alloc: Global, files: &mut Vec<NamedFile>) {
+    add_file(rt, alloc, files, "pier", &PIER);
+    add_file(rt, alloc, files, "pier", b"hidden");
+    let long = vec![in alloc; 7; 131_073].expect(rt, "a long text");
+    add_file(rt, alloc, files, "long", &long);
 }
 
-fn folder(alloc: Global, fails: &[u64]) -> Result<MemoryFiles, AllocError> {
-    let fails = fails.to_vec(alloc)?;
+fn folder(rt: &impl Abort, alloc: Global, fails: &[u64]) -> MemoryFiles {
+    let fails = fails.to_vec(alloc).expect(rt, "a schedule");
     let mut files = Vec::new(alloc);
-    let added = add_files(alloc, &mut files);
-    added.and(Ok(MemoryFiles::new(files, fails)))
+    add_files(rt, alloc, &mut files);
+    MemoryFiles::new(files, fails)
 }
 
 /// Reads from steady files in memory. Its contract says what a caller knows of the result.
@@ -86,22 +87,21 @@ static MEMORY_FILES: &[(&str, u64, u64, Result<usize, ReadAllFault>)] = &[
 
 /// Returns true if `expected` is what the file `name` of the folder gives.
 fn is_read(
+    rt: &impl Abort,
     alloc: Global,
     name: &str,
     limit: u64,
     failing: u64,
     expected: &Result<usize, ReadAllFault>,
 ) -> bool {
-    match folder(alloc, &[failing]) {
-        Ok(mut files) => length_read(alloc, &mut files, name, limit) == *expected,
-        Err(_) => false,
-    }
+    let mut files = folder(rt, alloc, &[failing]);
+    length_read(alloc, &mut files, name, limit) == *expected
 }
 
 #[test]
 fn a_file_is_read_whole_or_not_at_all(rt: HostRuntime) {
     for (place, (name, limit, failing, expected)) in MEMORY_FILES.iter().enumerate() {
-        let is_read = is_read(rt.alloc(), name, *limit, *failing, expected);
+        let is_read = is_read(&rt, rt.alloc(), name, *limit, *failing, expected);
         assert_holds(&rt, is_read, place);
     }
 }
@@ -115,15 +115,15 @@ fn has_bytes(alloc: Global, files: &mut MemoryFiles, name: &Text) -> bool {
 }
 
 /// Returns true if the file `pier` of steady files has its bytes.
-fn are_known(alloc: Global) -> Result<bool, AllocError> {
-    let name = Text::from_str(alloc, "pier")?;
-    let mut files = folder(alloc, &[])?;
-    Ok(has_bytes(alloc, &mut files, &name))
+fn are_known(rt: &impl Abort, alloc: Global) -> bool {
+    let name = Text::from_str(alloc, "pier").expect(rt, "a name");
+    let mut files = folder(rt, alloc, &[]);
+    has_bytes(alloc, &mut files, &name)
 }
 
 #[test]
 fn the_bytes_of_steady_files_are_known(rt: HostRuntime) {
-    assert!(rt; are_known(rt.alloc()) == Ok(true));
+    assert!(rt; are_known(&rt, rt.alloc()));
 }
 
 /// Writes to `sink`, and returns the number of bytes sent if a call fails.

@@ -49,18 +49,17 @@ fn offsets(rt: HostRuntime) -> Result<(), Fail> {
 }
 
 #[test]
-fn bases(rt: HostRuntime) -> Result<(), Fail> {
+fn bases(rt: HostRuntime) {
     let text =
         b"1\nS2 30\n1999\n1\nS2\n0\n*END*\n1\nS2\n1\n*END*\nPier\n0:00 :UTC\n0 feet\nS2 1 0\n";
-    let book = read_book(rt.alloc(), text)?;
+    let book = read_book(rt.alloc(), text).expect(&rt, "a book");
     let table = OffsetTable::new(rt.alloc());
-    let pier = Text::from_str(rt.alloc(), "Pier")?;
+    let pier = Text::from_str(rt.alloc(), "Pier").expect(&rt, "a name");
     let basis = find(&book, &table, &pier);
     assert_eq!(rt; basis.map(|basis| basis.station), Ok(0));
-    let quay = Text::from_str(rt.alloc(), "Quay")?;
+    let quay = Text::from_str(rt.alloc(), "Quay").expect(&rt, "a name");
     let fault = find(&book, &table, &quay).err();
     assert_eq!(rt; fault, Some(FindFault::NoStation));
-    Ok(())
 }
 
 #[test]
@@ -76,13 +75,13 @@ fn zone_files(rt: HostRuntime) {
 }
 
 #[test]
-fn questions(rt: HostRuntime) -> Result<(), Fail> {
+fn questions(rt: HostRuntime) {
     let mut words = Vec::new(rt.alloc());
     for word in ["predict", "file=pier.txt", "station=Pier"] {
-        words.push(Text::from_str(rt.alloc(), word)?)?;
+        let word = Text::from_str(rt.alloc(), word).expect(&rt, "a word");
+        words.push(word).expect(&rt, "words");
     }
-    let pairs = pairs_of_words(rt.alloc(), &Words::from_vec(words))?;
+    let pairs = pairs_of_words(rt.alloc(), &Words::from_vec(words)).expect(&rt, "pairs");
     let fault = read_question(rt.alloc(), &pairs).err();
     assert_eq!(rt; fault, Some(AskFault::MissingKey(Key::Begin)));
-    Ok(())
 }

@@ -3,8 +3,9 @@
 use crate::asserts::assert_holds;
 use crate::questions::asked;
 use decimal_text::Text;
-use question::{AskFault, Command, Layout, Origin, Question, ZoneWord};
+use question::{Command, Layout, Origin, Question, ZoneWord};
 use std::alloc::Global;
+use std::process::Abort;
 
 /// The values of a question: an empty name for none, and the sheets as their number.
 struct Values {
@@ -157,17 +158,14 @@ fn has_values(question: &Question, values: &Values) -> bool {
         & has_numbers(question, values)
 }
 
-fn is_read(alloc: Global, words: &str, values: &Values) -> Result<bool, AskFault> {
-    let question = asked(alloc, Origin::Line, words)?;
-    let is_read = has_values(&question, values);
-    drop(question);
-    Ok(is_read)
+fn is_read(rt: &impl Abort, alloc: Global, words: &str, values: &Values) -> bool {
+    let question = asked(rt, alloc, Origin::Line, words).expect(rt, "a question");
+    has_values(&question, values)
 }
 
 #[test]
-fn questions_have_their_values(rt: HostRuntime) -> Result<(), AskFault> {
+fn questions_have_their_values(rt: HostRuntime) {
     for (words, values) in VALUES {
-        assert_holds(&rt, is_read(rt.alloc(), words, values)?, *words);
+        assert_holds(&rt, is_read(&rt, rt.alloc(), words, values), *words);
     }
-    Ok(())
 }

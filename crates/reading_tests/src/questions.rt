@@ -6,7 +6,8 @@ use question::{
     AskFault, Command, Key, Origin, Pairs, Question, pairs_of_words, read_question, worked_faults,
     worked_query_faults, worked_questions, worked_values, worked_words,
 };
-use std::alloc::{AllocError, Global};
+use std::alloc::Global;
+use std::process::Abort;
 
 /// The command and the pairs of a query, separated by `|`, and their fault.
 static QUERIES: &[(&str, Option<AskFault>)] = &[
@@ -64,35 +65,41 @@ static QUERIES: &[(&str, Option<AskFault>)] = &[
     ("tides|x", Some(AskFault::UnknownCommand)),
 ];
 
-fn words_of(alloc: Global, line: &str) -> Result<Words, AllocError> {
+fn words_of(rt: &impl Abort, alloc: Global, line: &str) -> Words {
     let mut words = Vec::new(alloc);
     for word in line.split('|') {
-        words.push(Text::from_str(alloc, word)?)?;
+        let word = Text::from_str(alloc, word).expect(rt, "a word");
+        words.push(word).expect(rt, "words");
     }
-    Ok(Words::from_vec(words))
+    Words::from_vec(words)
 }
 
 /// Returns the arguments in `line`, as arguments of `origin`.
-fn pairs_of(alloc: Global, origin: Origin, line: &str) -> Result<Pairs, AllocError> {
-    let words = words_of(alloc, line)?;
-    let mut pairs = pairs_of_words(alloc, &words)?;
+fn pairs_of(rt: &impl Abort, alloc: Global, origin: Origin, line: &str) -> Pairs {
+    let words = words_of(rt, alloc, line);
+    let mut pairs = pairs_of_words(alloc, &words).expect(rt, "pairs");
     pairs.origin = origin;
-    Ok(pairs)
+    pairs
 }
 
-pub fn asked(alloc: Global, origin: Origin, line: &str) -> Result<Question, AskFault> {
-    let pairs = pairs_of(alloc, origin, line)?;
+pub fn asked(
+    rt: &impl Abort,
+    alloc: Global,
+    origin: Origin,
+    line: &str,
+) -> Result<Question, AskFault> {
+    let pairs = pairs_of(rt, alloc, origin, line);
     read_question(alloc, &pairs)
 }
 
-fn fault_of(alloc: Global, origin: Origin, line: &str) -> Option<AskFault> {
-    asked(alloc, origin, line).err()
+fn fault_of(rt: &impl Abort, alloc: Global, origin: Origin, line: &str) -> Option<AskFault> {
+    asked(rt, alloc, origin, line).err()
 }
 
 #[test]
 fn faults_of_queries_are_reported(rt: HostRuntime) {
     for (words, fault) in QUERIES {
-        let found = fault_of(rt.alloc(), Origin::Query, words);
+        let found = fault_of(&rt, rt.alloc(), Origin::Query, words);
         assert_holds(&rt, found == *fault, *words);
     }
 }

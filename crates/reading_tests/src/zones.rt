@@ -6,7 +6,6 @@ use crate::asserts::assert_holds;
 use arrayvec::ArrayString;
 use std::alloc::{AllocError, Global};
 use std::process::Abort;
-use std::test::Fail;
 use zone_time::{
     Label, Local, Zone, ZoneClock, ZoneFault, days_have_their_date, moments_have_one_text,
     read_moment, read_zone, worked_clocks, worked_locals, worked_readings, worked_texts,
@@ -173,11 +172,10 @@ fn check_new_york(rt: &impl Abort, clock: &ZoneClock<'_>) {
 }
 
 #[test]
-fn zones_show_local_times(rt: HostRuntime) -> Result<(), Fail> {
-    let bytes = new_york(rt.alloc(), b"\nEST5EDT,M3.2.0,M11.1.0\n")?;
-    let zone = read_zone(rt.alloc(), bytes.as_slice())?;
+fn zones_show_local_times(rt: HostRuntime) {
+    let bytes = new_york(rt.alloc(), b"\nEST5EDT,M3.2.0,M11.1.0\n").expect(&rt, "a file");
+    let zone = read_zone(rt.alloc(), bytes.as_slice()).expect(&rt, "a zone");
     check_new_york(&rt, &zone.clock());
-    Ok(())
 }
 
 #[test]
@@ -195,7 +193,7 @@ const LONG_HEAD: &[u8] =
 
 /// Returns a zone file with 236 changes, 182 and a half days from each to the next, the first in
 /// 1901.
-fn changed_often(alloc: Global) -> Result<Vec<u8>, Fail> {
+fn changed_often(alloc: Global) -> Result<Vec<u8>, AllocError> {
     let mut bytes = Vec::new(alloc);
     bytes.extend_from_slice(OLD_BLOCK)?;
     bytes.extend_from_slice(LONG_HEAD)?;
@@ -245,11 +243,10 @@ fn check_many_changes(rt: &impl Abort, zone: &Zone)
 }
 
 #[test]
-fn zones_of_many_changes_show_local_times(rt: HostRuntime) -> Result<(), Fail> {
-    let bytes = changed_often(rt.alloc())?;
-    let zone = read_zone(rt.alloc(), bytes.as_slice())?;
+fn zones_of_many_changes_show_local_times(rt: HostRuntime) {
+    let bytes = changed_often(rt.alloc()).expect(&rt, "a file");
+    let zone = read_zone(rt.alloc(), bytes.as_slice()).expect(&rt, "a zone");
     check_many_changes(&rt, &zone);
-    Ok(())
 }
 
 const BAD_FOOTERS: &[&str] = &[

@@ -1,16 +1,16 @@
 //! A request with all inputs of its answer.
 
-ghost use Rattle.std.specs.Prelude.{IfOk};
 ghost use Rattle.harmonics_book.specs.Books.{IsBook};
 ghost use Rattle.question.specs.Asked.{IsAsked};
 ghost use Rattle.tide_answer.specs.Givens.{IsGiven};
 
 use decimal_text::Bytes;
 use harmonics_book::Book;
-use question::{AskFault, Command, Question, pairs_of_words, read_question};
+use question::{Command, Question, pairs_of_words, read_question};
 use sample_tides::words_of;
 use station_table::OffsetTable;
 use std::alloc::{AllocError, Global};
+use std::process::Abort;
 use tide_answer::{Given, Ready, answer_into, prepare};
 use tide_edge::MemorySink;
 use zone_time::Zone;
@@ -77,14 +77,12 @@ fn written(ready: &Ready, sink: &mut MemorySink) -> Result<Option<u64>, AllocErr
     Ok(written.err().map(|fault| fault.sent))
 }
 
-/// Returns the request that the arguments in `line` make.
-///
-/// # Errors
-/// [`AskFault`] if they aren't a request, or memory runs out.
-pub fn asked(alloc: Global, line: &str) -> Result<Question, AskFault>
-    ensures { IfOk result IsAsked }
+/// Returns the request that the arguments in `line` make. The test fails if they aren't a request, or memory
+/// runs out.
+pub fn asked(rt: &impl Abort, alloc: Global, line: &str) -> Question
+    ensures { IsAsked result }
 {
-    let words = words_of(alloc, line)?;
-    let pairs = pairs_of_words(alloc, &words)?;
-    read_question(alloc, &pairs)
+    let words = words_of(alloc, line).expect(rt, "words");
+    let pairs = pairs_of_words(alloc, &words).expect(rt, "pairs");
+    read_question(alloc, &pairs).expect(rt, "a question")
 }

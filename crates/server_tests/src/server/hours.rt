@@ -8,14 +8,13 @@ use crate::asserts::{assert_count, assert_holds};
 use ghost_log::Log;
 use std::alloc::Global;
 use std::process::Abort;
-use std::test::Fail;
 use tide_edge::{Clock, Failed};
 
 /// The number of hours that the test's clock shows, one after the other, before it stops.
 const HOURS: u64 = 24;
 
 /// An observable clock that advances by an hour at each reading, from 2000-01-10T03:00Z on.
-#[derive(Debug, Drop)]
+#[derive(Drop)]
 struct HourClock {
     hours: u64,
     readings: Log<()>,
@@ -46,16 +45,15 @@ impl Clock for HourClock {
 
 const NOW: &str = "GET /clock?station=Pier HTTP/1.1\r\nHost: a\r\n\r\n";
 
-fn assert_says(
-    rt: &impl Abort,
-    alloc: Global,
-    outcome: &Outcome,
-    i: u64,
-    line: &str,
-) -> Result<(), Fail> {
-    let reply = String::from_utf8(outcome.door.reply(i).unwrap_or(b"").to_vec(alloc)?)?;
+fn assert_says(rt: &impl Abort, alloc: Global, outcome: &Outcome, i: u64, line: &str) {
+    let reply = outcome
+        .door
+        .reply(i)
+        .unwrap_or(b"")
+        .to_vec(alloc)
+        .expect(rt, "a copy");
+    let reply = String::from_utf8(reply).expect(rt, "a text");
     assert_holds(rt, reply.as_str().contains(line), line);
-    Ok(())
 }
 
 /// The number of a reply, and a line of it.
@@ -65,19 +63,18 @@ const SHOWN: &[(u64, &str)] = &[
 ];
 
 #[test]
-fn each_request_is_answered_at_its_own_minute(rt: HostRuntime) -> Result<(), Fail> {
+fn each_request_is_answered_at_its_own_minute(rt: HostRuntime) {
     let alloc = rt.alloc();
     let requests = [Coming::Whole(NOW), Coming::Whole(""), Coming::Whole(NOW)];
     let mut clock = HourClock {
         hours: 0,
         readings: Log::new(),
     };
-    let outcome = serve_by(alloc, ASKED, &requests, 4096, NONE, &mut clock)?;
+    let outcome = serve_by(&rt, alloc, ASKED, &requests, 4096, NONE, &mut clock);
     assert_done(&rt, &outcome, ASKED);
     for &(i, line) in SHOWN {
-        assert_says(&rt, alloc, &outcome, i, line)?;
+        assert_says(&rt, alloc, &outcome, i, line);
     }
-    Ok(())
 }
 
 const YEAR: &str =
@@ -88,12 +85,18 @@ const YEAR: &str =
 const LINES: usize = 5 + 1 + 4 * 366;
 
 #[test]
-fn a_list_of_a_year_is_sent_whole(rt: HostRuntime) -> Result<(), Fail> {
-    let outcome = serve_over(rt.alloc(), ASKED, &[Coming::Whole(YEAR)], 1_000_000, NONE)?;
+fn a_list_of_a_year_is_sent_whole(rt: HostRuntime) {
+    let outcome = serve_over(
+        &rt,
+        rt.alloc(),
+        ASKED,
+        &[Coming::Whole(YEAR)],
+        1_000_000,
+        NONE,
+    );
     assert_done(&rt, &outcome, ASKED);
     let reply = outcome.door.reply(0).unwrap_or(b"");
     assert_holds(&rt, reply.starts_with(b"HTTP/1.1 200 OK\r\n"), YEAR);
     let lines = reply.iter().filter(|byte| **byte == b'\n').count();
     assert_count(&rt, lines, LINES, YEAR);
-    Ok(())
 }

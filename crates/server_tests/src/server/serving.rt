@@ -1,7 +1,7 @@
 //! The server over a port in memory. Expected replies to requests were computed by an independent
 //! program.
 
-ghost use Rattle.std.specs.Prelude.{◌≡◌, IfOk, None};
+ghost use Rattle.std.specs.Prelude.{◌≡◌, None};
 ghost use Rattle.tide_edge.specs.Adapters.{held_by};
 
 use super::coming::{Coming, requests_of};
@@ -10,9 +10,8 @@ use super::with_fields;
 use crate::asserts::{assert_bytes, assert_count, assert_holds};
 use decimal_text::{Bytes, Text};
 use sample_tides::{PIER, words_of};
-use std::alloc::{AllocError, Global};
+use std::alloc::Global;
 use std::process::Abort;
-use std::test::Fail;
 use tide_answer::Status;
 use tide_edge::{Clock, FixedClock, MemoryDoor, MemoryFiles, MemorySink, NamedFile};
 use tide_server::serve;
@@ -49,70 +48,78 @@ const FILES: &[(&str, &str)] = &[
     ("dock.csv", DOCK),
 ];
 
-fn named(alloc: Global, name: &str, text: &str) -> Result<NamedFile, AllocError> {
-    Ok(NamedFile {
-        name: Text::from_str(alloc, name)?,
-        bytes: Bytes::from_vec(text.as_bytes().to_vec(alloc)?),
-    })
+fn named(rt: &impl Abort, alloc: Global, name: &str, text: &str) -> NamedFile {
+    let name = Text::from_str(alloc, name).expect(rt, "a name");
+    let bytes = text.as_bytes().to_vec(alloc).expect(rt, "a text");
+    NamedFile {
+        name,
+        bytes: Bytes::from_vec(bytes),
+    }
 }
 
-fn held(alloc: Global) -> Result<Vec<NamedFile>, AllocError> {
+fn held(rt: &impl Abort, alloc: Global) -> Vec<NamedFile> {
     let mut files = Vec::new(alloc);
     for &(name, text) in FILES {
-        files.push(named(alloc, name, text)?)?;
+        files.push(named(rt, alloc, name, text)).expect(rt, "files");
     }
-    Ok(files)
+    files
 }
 
-fn files_of(alloc: Global, fails: u64) -> Result<MemoryFiles, AllocError> {
-    let fails = [fails].to_vec(alloc)?;
-    Ok(MemoryFiles::new(held(alloc)?, fails))
+fn files_of(rt: &impl Abort, alloc: Global, fails: u64) -> MemoryFiles {
+    let fails = [fails].to_vec(alloc).expect(rt, "a schedule");
+    MemoryFiles::new(held(rt, alloc), fails)
 }
 
-fn err_of(alloc: Global, fails: u64) -> Result<MemorySink, AllocError> {
-    MemorySink::new(alloc, 4096, 4096, [fails].to_vec(alloc)?)
+fn err_of(rt: &impl Abort, alloc: Global, fails: u64) -> MemorySink {
+    let fails = [fails].to_vec(alloc).expect(rt, "a schedule");
+    MemorySink::new(alloc, 4096, 4096, fails).expect(rt, "a sink")
 }
 
 /// Returns a port that receives the requests, with `capacity` bytes for all replies.
 fn door_of(
+    rt: &impl Abort,
     alloc: Global,
     requests: &[Coming<'_>],
     capacity: u64,
     fails: u64,
-) -> Result<MemoryDoor, AllocError>
-    ensures { IfOk result (λ door. (held_by door).listener_state.port ≡ None) }
+) -> MemoryDoor
+    ensures { (held_by result).listener_state.port ≡ None }
 {
-    let fails = [fails].to_vec(alloc)?;
-    MemoryDoor::new(alloc, requests_of(alloc, requests)?, capacity, fails)
+    let fails = [fails].to_vec(alloc).expect(rt, "a schedule");
+    let requests = requests_of(rt, alloc, requests);
+    MemoryDoor::new(alloc, requests, capacity, fails).expect(rt, "a port")
 }
 
 /// Serves the requests, with `capacity` bytes for all replies.
 pub(super) fn serve_by<K: Clock>(
+    rt: &impl Abort,
     alloc: Global,
     line: &str,
     requests: &[Coming<'_>],
     capacity: u64,
     fails: Fails,
     clock: &mut K,
-) -> Result<Outcome, AllocError> {
-    let words = words_of(alloc, line)?;
-    let mut files = files_of(alloc, fails.files)?;
-    let mut err = err_of(alloc, fails.err)?;
-    let mut door = door_of(alloc, requests, capacity, fails.door)?;
+) -> Outcome {
+    let words = words_of(alloc, line).expect(rt, "words");
+    let mut files = files_of(rt, alloc, fails.files);
+    let mut err = err_of(rt, alloc, fails.err);
+    let mut door = door_of(rt, alloc, requests, capacity, fails.door);
     let status = serve(alloc, &words, &mut files, &mut door, &mut err, clock);
-    Ok(Outcome { status, door, err })
+    Outcome { status, door, err }
 }
 
 /// Serves the requests with a clock at 2000-01-10T03:00Z.
 pub(super) fn serve_over(
+    rt: &impl Abort,
     alloc: Global,
     line: &str,
     requests: &[Coming<'_>],
     capacity: u64,
     fails: Fails,
-) -> Result<Outcome, AllocError> {
-    let mut clock = FixedClock::new(15_791_220, [fails.clock].to_vec(alloc)?);
-    serve_by(alloc, line, requests, capacity, fails, &mut clock)
+) -> Outcome {
+    let readings = [fails.clock].to_vec(alloc).expect(rt, "a schedule");
+    let mut clock = FixedClock::new(15_791_220, readings);
+    serve_by(rt, alloc, line, requests, capacity, fails, &mut clock)
 }
 
 fn assert_reply(rt: &impl Abort, outcome: &Outcome, i: u64, expected: Option<&str>, case: &str) {
@@ -145,17 +152,16 @@ pub(super) fn assert_done(rt: &impl Abort, outcome: &Outcome, case: &str) {
 pub(super) const ASKED: &str = "serve|file=pier.txt";
 
 #[test]
-fn each_connection_has_its_reply(rt: HostRuntime) -> Result<(), Fail> {
+fn each_connection_has_its_reply(rt: HostRuntime) {
     let requests = [
         Coming::Whole(LOST),
         Coming::Whole(""),
         Coming::ByBytes(LOST),
         Coming::Whole("GET"),
     ];
-    let outcome = serve_over(rt.alloc(), ASKED, &requests, 4096, NONE)?;
+    let outcome = serve_over(&rt, rt.alloc(), ASKED, &requests, 4096, NONE);
     assert_done(&rt, &outcome, ASKED);
     assert_replies(&rt, &outcome, &[NOT_FOUND, "", NOT_FOUND, BAD], ASKED);
-    Ok(())
 }
 
 /// The arguments of a server, a request, and its reply.
@@ -176,23 +182,21 @@ fn assert_served(
     words: &str,
     requests: &[Coming<'_>],
     replies: &[&str],
-) -> Result<(), Fail> {
-    let outcome = serve_over(alloc, words, requests, 4096, NONE)?;
+) {
+    let outcome = serve_over(rt, alloc, words, requests, 4096, NONE);
     assert_done(rt, &outcome, words);
     assert_replies(rt, &outcome, replies, words);
-    Ok(())
 }
 
 #[test]
-fn a_question_is_answered_however_it_comes(rt: HostRuntime) -> Result<(), Fail> {
+fn a_question_is_answered_however_it_comes(rt: HostRuntime) {
     let alloc = rt.alloc();
     for &(words, request, reply) in QUESTIONS {
         let whole = [Coming::Whole(request), Coming::Whole("")];
-        assert_served(&rt, alloc, words, &whole, &[reply, ""])?;
+        assert_served(&rt, alloc, words, &whole, &[reply, ""]);
         let by_bytes = [Coming::ByBytes(request), Coming::Whole("")];
-        assert_served(&rt, alloc, words, &by_bytes, &[reply, ""])?;
+        assert_served(&rt, alloc, words, &by_bytes, &[reply, ""]);
     }
-    Ok(())
 }
 
 /// Hostile requests, and their replies.
@@ -220,28 +224,27 @@ const HOSTILE: &[(&str, &str)] = &[
 ];
 
 #[test]
-fn hostile_requests_are_answered(rt: HostRuntime) -> Result<(), Fail> {
+fn hostile_requests_are_answered(rt: HostRuntime) {
     for &(request, expected) in HOSTILE {
         let requests = [Coming::Whole(request), Coming::Whole(LOST)];
         let replies = [expected, NOT_FOUND];
-        assert_served(&rt, rt.alloc(), ASKED, &requests, &replies)?;
+        assert_served(&rt, rt.alloc(), ASKED, &requests, &replies);
     }
-    Ok(())
 }
 
 /// Asserts that a head is too large, and that the next request has its reply.
-fn assert_too_large(rt: &impl Abort, alloc: Global, head: &[u8]) -> Result<(), Fail> {
+fn assert_too_large(rt: &impl Abort, alloc: Global, head: &[u8]) {
     let requests = [Coming::Bytes(head), Coming::Whole(LOST)];
-    assert_served(rt, alloc, ASKED, &requests, &[FIELDS_TOO_LARGE, NOT_FOUND])
+    assert_served(rt, alloc, ASKED, &requests, &[FIELDS_TOO_LARGE, NOT_FOUND]);
 }
 
 #[test]
-fn heads_that_are_too_large_are_answered(rt: HostRuntime) -> Result<(), Fail> {
+fn heads_that_are_too_large_are_answered(rt: HostRuntime) {
     let alloc = rt.alloc();
-    let head = vec![in alloc; b'a'; 8_192]?;
-    assert_too_large(&rt, alloc, &head)?;
-    let head = with_fields(alloc, 65)?;
-    assert_too_large(&rt, alloc, &head)
+    let head = vec![in alloc; b'a'; 8_192].expect(&rt, "a long head");
+    assert_too_large(&rt, alloc, &head);
+    let head = with_fields(alloc, 65).expect(&rt, "a head of many fields");
+    assert_too_large(&rt, alloc, &head);
 }
 
 /// A call that fails during three connections, its name, and the status, the lines and the replies that
@@ -313,28 +316,26 @@ const FAILING: &[(&str, Fails, Status, &str, &[&str])] = &[
 ];
 
 #[test]
-fn a_failed_call_ends_what_it_is_of(rt: HostRuntime) -> Result<(), Fail> {
+fn a_failed_call_ends_what_it_is_of(rt: HostRuntime) {
     let requests = [
         Coming::Whole(LOST),
         Coming::Whole(LOST),
         Coming::Whole(LOST),
     ];
     for &(case, fails, status, printed, replies) in FAILING {
-        let outcome = serve_over(rt.alloc(), ASKED, &requests, 4096, fails)?;
+        let outcome = serve_over(&rt, rt.alloc(), ASKED, &requests, 4096, fails);
         assert_end(&rt, &outcome, status.number(), printed, case);
         assert_replies(&rt, &outcome, replies, case);
     }
-    Ok(())
 }
 
 #[test]
-fn a_full_line_cuts_the_reply_short(rt: HostRuntime) -> Result<(), Fail> {
+fn a_full_line_cuts_the_reply_short(rt: HostRuntime) {
     let requests = [Coming::Whole(LOST), Coming::Whole(LOST)];
-    let outcome = serve_over(rt.alloc(), ASKED, &requests, 10, NONE)?;
+    let outcome = serve_over(&rt, rt.alloc(), ASKED, &requests, 10, NONE);
     assert_done(&rt, &outcome, ASKED);
     assert_reply(&rt, &outcome, 0, Some("HTTP/1.1 4"), ASKED);
     assert_reply(&rt, &outcome, 1, Some(""), ASKED);
-    Ok(())
 }
 
 /// Arguments, and the status and the line that follow.
@@ -369,11 +370,10 @@ const REFUSED: &[(&str, u8, &str)] = &[
 ];
 
 #[test]
-fn what_keeps_the_server_from_serving_is_printed(rt: HostRuntime) -> Result<(), Fail> {
+fn what_keeps_the_server_from_serving_is_printed(rt: HostRuntime) {
     for &(line, status, printed) in REFUSED {
-        let outcome = serve_over(rt.alloc(), line, &[Coming::Whole(LOST)], 4096, NONE)?;
+        let outcome = serve_over(&rt, rt.alloc(), line, &[Coming::Whole(LOST)], 4096, NONE);
         assert_end(&rt, &outcome, status, printed, line);
         assert_reply(&rt, &outcome, 0, None, line);
     }
-    Ok(())
 }
