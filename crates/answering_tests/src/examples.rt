@@ -196,8 +196,9 @@ fn list_dates(
     let listed = station_events(alloc, book, table, question, inputs).expect(rt, "events");
     let (name, units, events) = (&listed.name, listed.units, &listed.events);
     let (begin, end) = (15_791_040, 15_792_480);
-    let dates = calendar_text(alloc, name, units, events, &Zone::Utc, begin, end);
-    let dates = dates.expect(rt, "a calendar");
+    let dates = calendar_text(alloc, name, units, events, &Zone::Utc, begin, end).expect(
+        rt, "dates",
+    );
     let first = b"Pier\n2000-01-10  06:00 -1.00 Low";
     assert_holds(rt, dates.as_slice().starts_with(first), "calendar");
 }

@@ -78,8 +78,9 @@ fn zone_files(rt: HostRuntime) {
 fn questions(rt: HostRuntime) {
     let mut words = Vec::new(rt.alloc());
     for word in ["predict", "file=pier.txt", "station=Pier"] {
-        let word = Text::from_str(rt.alloc(), word).expect(&rt, "a word");
-        words.push(word).expect(&rt, "words");
+        words
+            .push(Text::from_str(rt.alloc(), word).expect(&rt, "a word"))
+            .expect(&rt, "words");
     }
     let pairs = pairs_of_words(rt.alloc(), &Words::from_vec(words)).expect(&rt, "pairs");
     let fault = read_question(rt.alloc(), &pairs).err();

@@ -51,10 +51,10 @@ fn a_request_has_its_reply(rt: HostRuntime) {
 fn a_server_serves(rt: HostRuntime) {
     let alloc = rt.alloc();
     let pier = pier(&rt, alloc);
+    let requests = requests(&rt, alloc);
     let words = words_of(alloc, "serve|file=pier.txt|port=8080").expect(&rt, "words");
     let files = vec![in alloc; pier].expect(&rt, "files");
     let mut files = MemoryFiles::new(files, Vec::new(alloc));
-    let requests = requests(&rt, alloc);
     let mut door = MemoryDoor::new(alloc, requests, 4_096, Vec::new(alloc)).expect(&rt, "a port");
     let mut err = MemorySink::new(alloc, 4_096, 4_096, Vec::new(alloc)).expect(&rt, "a sink");
     let mut clock = FixedClock::new(15_791_220, Vec::new(alloc));

@@ -30,7 +30,8 @@ use tide_fault::Status;
 /// # Examples
 /// ```
 /// let words = words_of(alloc, line)?;
-/// let mut files = MemoryFiles::new(vec![in alloc; pier]?, Vec::new(alloc));
+/// let files = vec![in alloc; pier]?;
+/// let mut files = MemoryFiles::new(files, Vec::new(alloc));
 /// let mut out = MemorySink::new(alloc, 4_096, 1_000_000, Vec::new(alloc))?;
 /// let mut err = MemorySink::new(alloc, 4_096, 4_096, Vec::new(alloc))?;
 /// let mut clock = FixedClock::new(15_791_220, Vec::new(alloc));

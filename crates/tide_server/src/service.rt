@@ -34,8 +34,9 @@ use tide_fault::Status;
 /// # Examples
 /// ```
 /// let words = words_of(alloc, "serve|file=pier.txt|port=8080")?;
-/// let mut files = MemoryFiles::new(vec![in alloc; pier]?, Vec::new(alloc));
-/// let mut door = MemoryDoor::new(alloc, requests(alloc)?, 4_096, Vec::new(alloc))?;
+/// let files = vec![in alloc; pier]?;
+/// let mut files = MemoryFiles::new(files, Vec::new(alloc));
+/// let mut door = MemoryDoor::new(alloc, requests, 4_096, Vec::new(alloc))?;
 /// let mut err = MemorySink::new(alloc, 4_096, 4_096, Vec::new(alloc))?;
 /// let mut clock = FixedClock::new(15_791_220, Vec::new(alloc));
 /// let status = serve(alloc, &words, &mut files, &mut door, &mut err, &mut clock);
