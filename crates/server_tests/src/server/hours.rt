@@ -34,7 +34,7 @@ impl Clock for HourClock {
       faults = 0;
     } };
 
-    ghost lawful = { λ c _. held_lawful _ _ (length c.readings.items) };
+    ghost lawful = { λ c _. held_lawful (λ n. pos (15791160 + 60 * min (n + 1) 24)) (λ n. false) (length c.readings.items) };
 
     fn minute(&mut self) -> Result<i64, Failed> {
         self.hours = (self.hours + 1).min(HOURS);
