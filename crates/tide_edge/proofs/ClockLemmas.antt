@@ -9,9 +9,6 @@ use Rattle.tide_edge.specs.Workings.HeldClocks.{held_length}
 
 -- ---- One reading earlier
 
-first_is : {A : Type 0} (x y : A) → x ∷ [] ≡ y ∷ [] → x ≡ y
-first_is x y is = cc
-
 -- if the readings with a last one are the first that a clock has, so are those before it, and the last
 module _ (minute_at : ℕ → ℤ) (fails_at : ℕ → Bool) (readings : List (Option ℤ)) (last : Option ℤ)
     (is : readings ++ last ∷ [] ≡ held_readings minute_at fails_at (length (readings ++ last ∷ []))) where
@@ -35,11 +32,12 @@ module _ (minute_at : ℕ → ℤ) (fails_at : ℕ → Bool) (readings : List (O
 
   last_is : last ≡ next
   last_is =
-      first_is last next
-      (sym (drop-append_seam readings (last ∷ []))
+      let same : last ∷ [] ≡ next ∷ [] =
+      sym (drop-append_seam readings (last ∷ []))
       ∙ ap (drop (length readings)) split
       ∙ ap (λ n. drop n (held ++ next ∷ [])) (sym (held_length minute_at fails_at (length readings)))
-      ∙ drop-append_seam held (next ∷ []))
+      ∙ drop-append_seam held (next ∷ []) in
+      cc
 
 some_is : (fails : Bool) (minute next : ℤ) → Some minute ≡ (if fails then None else Some next) → minute ≡ next
 some_is true minute next is = absurd (cc)

@@ -1,25 +1,23 @@
 -- Files in memory: the open file after each call.
-use Rattle.std.proofs.Common.{◌≡◌, ◌∙◌, ap, sym, ℕ, zero, suc, ◌+◌, Bool, true, false, if◌then◌else◌, List, [], ◌∷◌, ◌++◌, length, drop, min, Option, Some, None, Result, Ok, is_err, refl, subst}
+use Rattle.std.proofs.Common.{◌≡◌, ◌∙◌, ap, sym, ℕ, ◌+◌, Bool, true, false, if◌then◌else◌, List, [], ◌∷◌, ◌++◌, length, drop, min, Option, Some, None, Result, Ok, is_err, refl, subst}
 use Rattle.std.specs.Prelude.{is_none, unwrap_or}
 use Rattle.std.specs.Option.{option_map}
 use Rattle.std.proofs.lemmas.List.{drop-drop}
 use Rattle.std.proofs.lemmas.List.Sums.{fold-append}
+use Rattle.std.proofs.Math.Seq.{drop-nil}
 use Rattle.tide_edge.specs.declared.failed.Failed.{Failed}
 use Rattle.tide_edge.specs.declared.named_file.NamedFile.{NamedFile}
 use Rattle.tide_edge.specs.FaultSchedule.{HeldCalls, after_call, answer, is_to_fail}
 use Rattle.tide_edge.specs.Faults.{counted}
 use Rattle.tide_edge.specs.FileStates.{FileContents, begun, files_after_open}
 use Rattle.tide_edge.specs.Memory.{FileCall, FilesNow, HeldFiles, Open, Read, after_file_call, before_calls, files_now, files_state, folder_of, found, open_result}
-use Rattle.tide_edge.specs.Workings.MemoryLaws.{kept_store}
+use Rattle.tide_edge.specs.Workings.MemoryLaws.{memory_store}
 use Rattle.tide_edge.specs.Workings.OpenFile.{IsOpenAs, bytes_at, rest_of}
 
 -- the last call
 pub one_more : (contents : HeldFiles) (call : FileCall)
     → files_now (record contents { history = contents.history ++ call ∷ [] }) ≡ after_file_call (files_now contents) call
 one_more contents call = fold-append after_file_call (before_calls contents) contents.history (call ∷ [])
-
-stored : (contents : HeldFiles) → (files_now contents).state.file_contents ≡ (before_calls contents).state.file_contents
-stored contents = kept_store (before_calls contents) contents.history
 
 succeeds_by : (failed : Bool) → Ok record {} ≡ answer {T = Unit {0}} failed record {} → failed ≡ false
 succeeds_by true is = absurd cc
@@ -46,11 +44,11 @@ begun_by false None found is = rw is refl
 begun_by false (Some bytes) found is = rw is refl
 
 rest_by : (now : FilesNow) (file_contents : FileContents) (fault_schedule : HeldCalls) (name : List ℕ) (file : Option (List ℕ))
-    → now.state.file_contents ≡ file_contents → now.fault_schedule ≡ fault_schedule → file_contents.is_observable ≡ true
+    → now.state.file_contents ≡ file_contents → now.fault_schedule ≡ fault_schedule
     → file ≡ (if is_to_fail fault_schedule then None else file_contents.folder name)
     → (after_file_call now (Open name)).state.unread_bytes ≡ unwrap_or file []
-rest_by now file_contents fault_schedule name file is made t found =
-    rw (is, made, t, ← found) (begun_by (is_to_fail fault_schedule) (file_contents.folder name) file found)
+rest_by now file_contents fault_schedule name file is made found =
+    rw (is, made, ← found) (begun_by (is_to_fail fault_schedule) (file_contents.folder name) file found)
 
 failed_by : (none : Bool) (fault_schedule : HeldCalls) → after_call (is_err (answer {T = Unit {0}} none record {})) fault_schedule ≡ after_call none fault_schedule
 failed_by true fault_schedule = refl
@@ -76,7 +74,7 @@ module _ (files : List NamedFile) (history later : List FileCall) (opened : Opti
   pub next_result : open_result (files_now contents) name ≡ answer (is_none index) record {}
   next_result =
       ap (λ file. answer (is_none file) record {})
-      (found_by (files_now contents) (before_calls contents).state.file_contents fault_schedule name (stored contents) was.made ∙ sym finds)
+      (found_by (files_now contents) (before_calls contents).state.file_contents fault_schedule name (memory_store contents) was.made ∙ sym finds)
       ∙ ap (λ none. answer none record {}) (none_mapped files index)
 
   -- the file that is found is open
@@ -87,7 +85,7 @@ module _ (files : List NamedFile) (history later : List FileCall) (opened : Opti
       moved files later index 0 (after_call (is_none index) fault_schedule) new called (record {
         unread_bytes = ap (λ now. now.state.unread_bytes) next
             ∙ rest_by (files_now contents) (before_calls contents).state.file_contents fault_schedule name (option_map (bytes_at files) index)
-            (stored contents) was.made refl finds
+            (memory_store contents) was.made finds
             ∙ begins files index;
         made = ap (λ now. now.fault_schedule) next ∙ rw (next_result, was.made) (failed_by (is_none index) fault_schedule);
       })
@@ -99,16 +97,14 @@ open_after contents name result is = rw is (ap (λ now. now.state) (one_more con
 
 -- ---- `read`
 
-on_by : (now : FilesNow) (file_contents : FileContents) (fault_schedule : HeldCalls) (more : ℕ) (unread_bytes : List ℕ)
-    → now.state.file_contents ≡ file_contents → now.fault_schedule ≡ fault_schedule → file_contents.is_observable ≡ true → is_to_fail fault_schedule ≡ false → now.state.unread_bytes ≡ unread_bytes
+on_by : (now : FilesNow) (fault_schedule : HeldCalls) (more : ℕ) (unread_bytes : List ℕ) → now.fault_schedule ≡ fault_schedule → is_to_fail fault_schedule ≡ false → now.state.unread_bytes ≡ unread_bytes
     → (after_file_call now (Read more)).state.unread_bytes ≡ drop (min (more + 1) (length unread_bytes)) unread_bytes
-on_by now file_contents fault_schedule more unread_bytes is made t to_fail left = rw (made, to_fail, is, t, left) refl
+on_by now fault_schedule more unread_bytes made to_fail left = rw (made, to_fail, left) refl
 
 -- the unread bytes of the open file, some bytes further on
 further : (files : List NamedFile) (opened : Option ℕ) (at count : ℕ)
     → drop count (rest_of files opened at) ≡ rest_of files opened (at + count)
-further files None at zero = refl
-further files None at (suc count) = refl
+further files None at count = drop-nil count
 further files (Some index) at count = drop-drop count at (bytes_at files index)
 
 module _ (files : List NamedFile) (history later : List FileCall) (opened : Option ℕ) (at : ℕ) (fault_schedule : HeldCalls) (more : ℕ)
@@ -131,8 +127,7 @@ module _ (files : List NamedFile) (history later : List FileCall) (opened : Opti
       let few : count ≡ min (more + 1) (length (rest_of files opened at)) = rw (← left, long) counted in
       let found : IsOpenAs (held_after (after_call false fault_schedule)) opened (at + count) (after_call false fault_schedule) = record {
         unread_bytes = ap (λ now. now.state.unread_bytes) next
-            ∙ on_by (files_now held_before) (before_calls held_before).state.file_contents fault_schedule more (rest_of files opened at)
-            (stored held_before) was.made refl to_fail was.unread_bytes
+            ∙ on_by (files_now held_before) fault_schedule more (rest_of files opened at) was.made to_fail was.unread_bytes
             ∙ ap (λ n. drop n (rest_of files opened at)) (sym few)
             ∙ further files opened at count;
         made = ap (λ now. now.fault_schedule) next ∙ rw (was.made, to_fail) refl;

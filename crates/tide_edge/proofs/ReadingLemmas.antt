@@ -15,13 +15,10 @@ use Rattle.tide_edge.specs.Faults.{faults_after}
 use Rattle.tide_edge.specs.FileStates.{FilesState, Opening, Openings, FileContents, files_after_open, files_after_read, just_opened, as_list, opening_after_failure, opening_after_read, openings_of}
 use Rattle.tide_edge.specs.StoreLaws.{AreOfStore, IsLawful, IsOfStore, IsReadOf}
 use Rattle.tide_edge.specs.Whole.{Allowance, HasPassed, IsOutOfMemory, OpenedOnce, ReadWithin, Shows, both, one_file, source_of, whole}
-use Rattle.tide_edge.specs.Workings.MemoryLaws.{listed_read}
+use Rattle.tide_edge.specs.Workings.MemoryLaws.{listed_read, never}
 use Rattle.tide_edge.specs.Workings.Reading.{HasCome, IsSoFar, all_taken, still_open}
 
 -- ---- The contents that agree with what was read
-
-never : {G : Type 0} → false ≡ true → G
-never is = cc
 
 -- too much was read
 long_whole : (limit : ℕ) (bytes left : List ℕ) (file : Option (List ℕ)) → limit < length bytes → file ≡ Some (bytes ++ left)
@@ -34,12 +31,6 @@ ended_whole : (limit : ℕ) (bytes left : List ℕ) (file : Option (List ℕ)) �
     → left ≡ [] → whole limit file ≡ Ok bytes
 ended_whole limit bytes left file within is none =
     rw (is, none, append-nil bytes, le-leb (length bytes) limit within) refl
-
-not_long : (limit : ℕ) (bytes : List ℕ) → length bytes ≤ limit → nat_lt limit (length bytes) ≡ false
-not_long limit bytes within = lt-leb (suc limit) (length bytes) (omega (arith, within))
-
-is_long : (limit : ℕ) (bytes : List ℕ) → limit < length bytes → nat_lt limit (length bytes) ≡ true
-is_long limit bytes over = le-leb (suc limit) (length bytes) over
 
 or_true : (b c : Bool) → c ≡ true → (b || c) ≡ true
 or_true true c is = refl
@@ -106,7 +97,7 @@ module _ (limit : ℕ) (bytes : List ℕ) (before now after : FilesState) (so_fa
         let all = longer count bytes buffer few in
         let long : limit < length last.bytes = rw all (omega (arith, over)) in
         came_on bytes (Err TooLong) refl (rw all (omega (arith, within, piece, few))) (λ e. long, λ l. refl)
-        (λ firm file shows. let parts = shows.read (or_true (nat_lt 0 last.ends) (nat_lt limit (length last.bytes)) (is_long limit last.bytes long)) in
+        (λ firm file shows. let parts = shows.read (or_true (nat_lt 0 last.ends) (nat_lt limit (length last.bytes)) (le-leb (suc limit) (length last.bytes) long)) in
         long_whole limit last.bytes parts.0 file long parts.1)
 
     -- memory ran out
@@ -129,7 +120,7 @@ module _ (limit : ℕ) (bytes : List ℕ) (before now after : FilesState) (so_fa
       (came (opening_after_failure (still_open so_far.name bytes)) (ap (λ s. s.file_contents) is) bytes (Err ReadFailed) refl
       (rw (is, so_far.open_log) refl) (ap (λ s. s.faults) is) (omega arith) (omega (arith, within))
       (λ e. absurd cc, λ over. absurd (omega (arith, over, within)))
-      (λ firm file shows f. rw (shows.absent f (not_long limit bytes within) refl) refl))
+      (λ firm file shows f. rw (shows.absent f (lt-leb (suc limit) (length bytes) (omega (arith, within))) refl) refl))
 
 -- ---- Opening and reading
 

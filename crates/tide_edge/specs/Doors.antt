@@ -50,23 +50,19 @@ not_listening = record { port = None; listens = false; accepted = 0; is_open = f
 -- The listener's port, flags and count of connections after `listen` with this port; the Bool is
 -- true if the call succeeded. No connection was accepted yet.
 abbrev pub listen_requested : ℕ → Bool → ListenerState
-listen_requested port listens =
-    record { port = Some port; listens = listens; accepted = 0; is_open = false; is_over = false }
+listen_requested port listens = record not_listening { port = Some port; listens = listens }
 
 -- The listener's port, flags and count of connections after `next` with this result: another
 -- connection is counted, and it is open; or there are no more connections; or the call failed and
 -- nothing changed.
 abbrev pub after_next : Result Bool Failed → ListenerState → ListenerState
-after_next (Ok true) d =
-    record { port = d.port; listens = d.listens; accepted = counted d.accepted; is_open = true; is_over = d.is_over }
-after_next (Ok false) d =
-    record { port = d.port; listens = d.listens; accepted = d.accepted; is_open = d.is_open; is_over = true }
+after_next (Ok true) d = record d { accepted = counted d.accepted; is_open = true }
+after_next (Ok false) d = record d { is_over = true }
 after_next (Err failed) d = d
 
 -- The listener's port, flags and count of connections after `close`: no connection is open.
 abbrev pub closed : ListenerState → ListenerState
-closed d =
-    record { port = d.port; listens = d.listens; accepted = d.accepted; is_open = false; is_over = d.is_over }
+closed d = record d { is_open = false }
 
 -- The first of the lists, or the empty list if there is none.
 abbrev pub first_or_empty : {A : Type 0} → List (List A) → List A

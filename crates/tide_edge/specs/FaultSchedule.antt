@@ -31,7 +31,7 @@ after_call failed fault_schedule = record {
   faults = faults_after failed fault_schedule.faults;
 }
 
--- The calls of an object in memory after as many as `count`, of which exactly those with a number in
+-- The calls of an object in memory after `count` of them, of which exactly those with a number in
 -- `fails` (counted from 1) have failed.
 abbrev pub calls_after : List ℕ → ℕ → HeldCalls
 calls_after fails zero = schedule_of fails

@@ -128,7 +128,7 @@ begun (Err failed) file = []
 -- change: to all bytes of the file, or to none if the call failed.
 abbrev pub files_after_open : {T : Type 0} → Result T Failed → List ℕ → FilesState → FilesState
 files_after_open result name s = record s {
-  unread_bytes = (if s.file_contents.is_observable then begun result (s.file_contents.folder name) else s.unread_bytes);
+  unread_bytes = begun result (s.file_contents.folder name);
   open_log = openings_after_open (is_ok result) name s.open_log;
   faults = faults_after (is_err result) s.faults;
 }
@@ -139,7 +139,7 @@ files_after_open result name s = record s {
 -- dropped. A failure is recorded and counted.
 abbrev pub files_after_read : Result ℕ Failed → List ℕ → FilesState → FilesState
 files_after_read (Ok count) buffer s = record s {
-  unread_bytes = (if s.file_contents.is_observable then drop count s.unread_bytes else s.unread_bytes);
+  unread_bytes = drop count s.unread_bytes;
   open_log = openings_after_read count buffer s.open_log;
 }
 files_after_read (Err failed) buffer s = record s { open_log = openings_after_failure s.open_log; faults = counted s.faults }

@@ -46,7 +46,7 @@ impl<R: rt::Files + Drop> HostFiles<R> {
 
 impl<R: rt::Files + Drop> Files for HostFiles<R> {
     ghost use Rattle.tide_edge.specs.Adapters.{file_of, left_of};
-    ghost use Rattle.tide_edge.specs.Workings.MemoryLaws.{unobservable};
+    ghost use Rattle.std.proofs.Common.{true≢false, sym};
 
     ghost state = { λ h. record {
       file_contents = record { is_observable = false; folder = λ name. None; is_steady = false };
@@ -55,7 +55,7 @@ impl<R: rt::Files + Drop> Files for HostFiles<R> {
       faults = h.faults;
     } };
 
-    ghost lawful = { λ h untrue. unobservable untrue };
+    ghost lawful = { λ _ is. absurd (true≢false (sym is)) };
 
     fn open(&mut self, name: &Text) -> Result<(), Failed>
         ensures after { ⟦<HostFiles<R> as Files>⟧.state self.new

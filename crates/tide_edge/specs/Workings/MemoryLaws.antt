@@ -1,9 +1,10 @@
 -- Files in memory are lawful: what was read after each call of `open` agrees with their contents.
-use Rattle.std.specs.Prelude.{◌≡◌, ◌<◌, ◌==◌, ◌+◌, ℕ, zero, suc, min, Bool, true, false, if◌then◌else◌, IsTrue, IsSome, IfSome, IfOk, OnOk, OnErr, IsOk, All, List, [], ◌∷◌, ◌++◌, length, take, drop, fold, Option, Some, None, is_none, Result, Ok, Err, is_ok}
+use Rattle.std.specs.Prelude.{◌≡◌, ◌<◌, ◌==◌, ◌+◌, ℕ, min, Bool, true, false, if◌then◌else◌, IsTrue, IsSome, IfSome, IfOk, OnOk, OnErr, IsOk, All, List, [], ◌∷◌, ◌++◌, length, take, drop, fold, Option, Some, None, is_none, Result, Ok, Err, is_ok}
 use Rattle.std.proofs.Common.{refl, sym, ap, ◌∙◌, append_assoc, take-append-drop, arith}
 use Rattle.std.specs.Option.{option_map}
 use Rattle.std.proofs.lemmas.Bool.Decides.{Decides-eqb}
 use Rattle.std.proofs.lemmas.List.{nil_from_length}
+use Rattle.std.proofs.Math.Seq.{drop-nil}
 use Rattle.std.proofs.lemmas.List.Elements.{All-append, All-cons, All-nil}
 use Rattle.tide_edge.specs.declared.failed.Failed.{Failed}
 use Rattle.tide_edge.specs.FaultSchedule.{answer, is_to_fail}
@@ -11,13 +12,8 @@ use Rattle.tide_edge.specs.FileStates.{FilesState, Opening, FileContents, IsNone
 use Rattle.tide_edge.specs.Memory.{FileCall, FilesNow, HeldFiles, Open, Read, after_file_call, before_calls, files_state, folder_of, open_result, read_result}
 use Rattle.tide_edge.specs.StoreLaws.{AreOfStore, IsLawful, IsOfStore, IsReadOf}
 
-never : {G : Type 0} → false ≡ true → G
+pub never : {G : Type 0} → false ≡ true → G
 never is = cc
-
--- Files that aren't observable (the state doesn't have their contents) are lawful: the law says
--- nothing about them.
-pub unobservable : {G : Type 0} → IsTrue false → G
-unobservable untrue = never untrue
 
 -- ---- One call keeps the law
 
@@ -46,29 +42,21 @@ just_read file_contents name (Err failed) found absent = record {
   steady = λ _. refl;
 }
 
-chosen : (b : Bool) (first second : List ℕ) → IsTrue b → (if b then first else second) ≡ first
-chosen true first second t = refl
-chosen false first second t = never t
-
-open_keeps : (s : FilesState) (result : Result (Unit {0}) Failed) (name : List ℕ) → IsTrue s.file_contents.is_observable
+open_keeps : (s : FilesState) (result : Result (Unit {0}) Failed) (name : List ℕ)
     → OnOk result (IsSome (s.file_contents.folder name))
     → (IsTrue s.file_contents.is_steady → OnErr result (s.file_contents.folder name ≡ None))
     → AreOfStore s → AreOfStore (files_after_open result name s)
-open_keeps s result name t found absent of = record {
+open_keeps s result name found absent of = record {
   earlier = All-append (IsOfStore s.file_contents) s.open_log.earlier (as_list s.open_log.latest) of.earlier
       (listed_read s.file_contents s.unread_bytes s.open_log.latest of.latest);
-  latest = rw (chosen s.file_contents.is_observable (begun result (s.file_contents.folder name)) s.unread_bytes t) (just_read s.file_contents name result found absent);
+  latest = just_read s.file_contents name result found absent;
   unopened = λ none. absurd cc;
 }
 
-drop_none : (count : ℕ) → drop {A = ℕ} count [] ≡ []
-drop_none zero = refl
-drop_none (suc count) = refl
-
 ended_by : (count ends : ℕ) (is_zero : Bool) (unread_bytes : List ℕ) → (count == 0) ≡ is_zero → (count ≡ 0 → unread_bytes ≡ [])
     → (0 < ends → unread_bytes ≡ []) → 0 < (if is_zero then ends + 1 else ends) → drop count unread_bytes ≡ []
-ended_by count ends true unread_bytes is at_zero ended some = rw (at_zero ((Decides-eqb count 0).0 is)) (drop_none count)
-ended_by count ends false unread_bytes is at_zero ended some = rw (ended some) (drop_none count)
+ended_by count ends true unread_bytes is at_zero ended some = rw (at_zero ((Decides-eqb count 0).0 is)) (drop-nil count)
+ended_by count ends false unread_bytes is at_zero ended some = rw (ended some) (drop-nil count)
 
 read_on : (file_contents : FileContents) (unread_bytes : List ℕ) (count : ℕ) (o : Opening) → (count ≡ 0 → unread_bytes ≡ []) → IsReadOf file_contents unread_bytes o
     → IsReadOf file_contents (drop count unread_bytes) (opening_after_read count unread_bytes o)
@@ -81,36 +69,29 @@ read_on file_contents unread_bytes count o at_zero is = record {
   steady = is.steady;
 }
 
-latest_read_on : (file_contents : FileContents) (unread_bytes : List ℕ) (count : ℕ) (latest : Option Opening) → (count ≡ 0 → unread_bytes ≡ [])
-    → IfSome latest (λ o. IsReadOf file_contents unread_bytes o)
-    → IfSome (option_map (opening_after_read count unread_bytes) latest) (λ o. IsReadOf file_contents (drop count unread_bytes) o)
-latest_read_on file_contents unread_bytes count None at_zero is = tt
-latest_read_on file_contents unread_bytes count (Some o) at_zero is = read_on file_contents unread_bytes count o at_zero is
-
-latest_failed : (file_contents : FileContents) (unread_bytes : List ℕ) (latest : Option Opening) → (IsTrue file_contents.is_steady → ⊥)
-    → IfSome latest (λ o. IsReadOf file_contents unread_bytes o)
-    → IfSome (option_map opening_after_failure latest) (λ o. IsReadOf file_contents unread_bytes o)
-latest_failed file_contents unread_bytes None unsteady is = tt
-latest_failed file_contents unread_bytes (Some o) unsteady is =
-    record { prefix = is.prefix; whole = is.whole; exists = is.exists; absent = is.absent; steady = λ s. absurd (unsteady s) }
+-- what holds of the latest opening, after a change of it
+latest_on : (change : Opening → Opening) (P Q : Opening → Type 0) (latest : Option Opening) → ((o : Opening) → P o → Q (change o))
+    → IfSome latest P → IfSome (option_map change latest) Q
+latest_on change P Q None on is = tt
+latest_on change P Q (Some o) on is = on o is
 
 unmapped : (change : Opening → Opening) (latest : Option Opening) → option_map change latest ≡ None → latest ≡ None
 unmapped change None none = refl
 unmapped change (Some o) none = absurd cc
 
-read_keeps : (s : FilesState) (result : Result ℕ Failed) → IsTrue s.file_contents.is_observable
-    → IfOk result (λ count. count ≡ 0 → s.unread_bytes ≡ []) → (IsTrue s.file_contents.is_steady → IsOk result)
+read_keeps : (s : FilesState) (result : Result ℕ Failed) → IfOk result (λ count. count ≡ 0 → s.unread_bytes ≡ []) → (IsTrue s.file_contents.is_steady → IsOk result)
     → AreOfStore s → AreOfStore (files_after_read result s.unread_bytes s)
-read_keeps s (Ok count) t end reads of = record {
+read_keeps s (Ok count) end reads of = record {
   earlier = of.earlier;
-  latest = rw (chosen s.file_contents.is_observable (drop count s.unread_bytes) s.unread_bytes t)
-      (latest_read_on s.file_contents s.unread_bytes count s.open_log.latest end of.latest);
+  latest = latest_on (opening_after_read count s.unread_bytes) (IsReadOf s.file_contents s.unread_bytes)
+      (IsReadOf s.file_contents (drop count s.unread_bytes)) s.open_log.latest (λ o. read_on s.file_contents s.unread_bytes count o end) of.latest;
   unopened = λ none. let before = of.unopened (unmapped (opening_after_read count s.unread_bytes) s.open_log.latest none) in
-      (rw (chosen s.file_contents.is_observable (drop count s.unread_bytes) s.unread_bytes t, before.0) (drop_none count), before.1);
+      (rw before.0 (drop-nil count), before.1);
 }
-read_keeps s (Err failed) t end reads of = record {
+read_keeps s (Err failed) end reads of = record {
   earlier = of.earlier;
-  latest = latest_failed s.file_contents s.unread_bytes s.open_log.latest (λ steady. never (reads steady)) of.latest;
+  latest = latest_on opening_after_failure (IsReadOf s.file_contents s.unread_bytes) (IsReadOf s.file_contents s.unread_bytes) s.open_log.latest
+      (λ o is. record { prefix = is.prefix; whole = is.whole; exists = is.exists; absent = is.absent; steady = λ steady. never (reads steady) }) of.latest;
   unopened = λ none. ((of.unopened (unmapped opening_after_failure s.open_log.latest none)).0, λ steady. never (reads steady));
 }
 
@@ -136,27 +117,19 @@ IsSafe now = IsTrue now.state.file_contents.is_steady → now.fault_schedule.fai
 safe_call : (now : FilesNow) → IsSafe now → IsTrue now.state.file_contents.is_steady → is_to_fail now.fault_schedule ≡ false
 safe_call now safe steady = rw (safe steady) refl
 
+-- a file that is opened exists
 found_by : (failed : Bool) (file : Option (List ℕ))
     → OnOk (answer {T = Unit {0}} (is_none (if failed then None else file)) record {}) (IsSome file)
 found_by true file = tt
 found_by false None = tt
 found_by false (Some bytes) = refl
 
+-- a file that couldn't be opened doesn't exist, if the call wasn't to fail
 absent_by : (failed : Bool) (file : Option (List ℕ)) → failed ≡ false
     → OnErr (answer {T = Unit {0}} (is_none (if failed then None else file)) record {}) (file ≡ None)
 absent_by true file is = never (sym is)
 absent_by false None is = refl
 absent_by false (Some bytes) is = tt
-
--- If the next `open` of `name` succeeds, the file exists.
-opened_exists : (now : FilesNow) (name : List ℕ) → OnOk (open_result now name) (IsSome (now.state.file_contents.folder name))
-opened_exists now name = found_by (is_to_fail now.fault_schedule) (now.state.file_contents.folder name)
-
--- If the next `open` of `name` fails and the files are steady (calls on existing files never fail),
--- there is no such file.
-unopened_absent : (now : FilesNow) (name : List ℕ) → IsSafe now → IsTrue now.state.file_contents.is_steady
-    → OnErr (open_result now name) (now.state.file_contents.folder name ≡ None)
-unopened_absent now name safe steady = absent_by (is_to_fail now.fault_schedule) (now.state.file_contents.folder name) (safe_call now safe steady)
 
 min_none : (more : ℕ) (unread_bytes : List ℕ) → min (more + 1) (length unread_bytes) ≡ 0 → unread_bytes ≡ []
 min_none more [] is = refl
@@ -191,25 +164,23 @@ pub memory_store : (contents : HeldFiles)
     → (files_state contents).file_contents ≡ record { is_observable = true; folder = folder_of contents.files; is_steady = length contents.fails == 0 }
 memory_store contents = kept_store (before_calls contents) contents.history
 
-safe_by : (fails : List ℕ) → (length fails == 0) ≡ true → fails ≡ []
-safe_by fails is = nil_from_length fails ((Decides-eqb (length fails) 0).0 is)
-
-lawful_from : (now : FilesNow) (calls : List FileCall) → IsTrue now.state.file_contents.is_observable → IsSafe now
+lawful_from : (now : FilesNow) (calls : List FileCall) → IsSafe now
     → AreOfStore now.state → AreOfStore (fold after_file_call now calls).state
-lawful_from now [] t safe of = of
-lawful_from now (Open name ∷ more) t safe of =
-    lawful_from (after_file_call now (Open name)) more t safe
-    (open_keeps now.state (open_result now name) name t (opened_exists now name)
-    (λ steady. unopened_absent now name safe steady) of)
-lawful_from now (Read n ∷ more) t safe of =
+lawful_from now [] safe of = of
+lawful_from now (Open name ∷ more) safe of =
+    lawful_from (after_file_call now (Open name)) more safe
+    (open_keeps now.state (open_result now name) name
+    (found_by (is_to_fail now.fault_schedule) (now.state.file_contents.folder name))
+    (λ steady. absent_by (is_to_fail now.fault_schedule) (now.state.file_contents.folder name) (safe_call now safe steady)) of)
+lawful_from now (Read n ∷ more) safe of =
     let same = call_store (read_result now (n + 1)) now.state.unread_bytes now.state in
-    lawful_from (after_file_call now (Read n)) more (rw same t) (λ steady. safe (rw same at steady))
-    (read_keeps now.state (read_result now (n + 1)) t (end_by (is_to_fail now.fault_schedule) n now.state.unread_bytes)
+    lawful_from (after_file_call now (Read n)) more (λ steady. safe (rw same at steady))
+    (read_keeps now.state (read_result now (n + 1)) (end_by (is_to_fail now.fault_schedule) n now.state.unread_bytes)
     (λ steady. reads_by (is_to_fail now.fault_schedule) (min (n + 1) (length now.state.unread_bytes)) (safe_call now safe steady)) of)
 
 pub memory_of : (contents : HeldFiles) → AreOfStore (files_state contents)
 memory_of contents =
-    lawful_from (before_calls contents) contents.history refl (λ steady. safe_by contents.fails steady)
+    lawful_from (before_calls contents) contents.history (λ steady. nil_from_length contents.fails ((Decides-eqb (length contents.fails) 0).0 steady))
     (record { earlier = All-nil (IsOfStore (before_calls contents).state.file_contents); latest = tt; unopened = λ _. (refl, λ _. refl) })
 
 pub memory_lawful : (contents : HeldFiles) → IsLawful (files_state contents)
