@@ -2,8 +2,10 @@
 //!
 //! [`answer`] answers a [`Question`](question::Question) with harmonic constants and a table of offsets:
 //! it returns a text, or the first [`Refusal`] in a fixed order. [`answer_alone`] answers a question
-//! that names no file, and [`station_events`] returns the events for a report. [`prepare`] and
-//! [`answer_into`] write a listing or a certificate while it is computed, without allocating.
+//! that names no file, and [`station_events`] returns the events for a report. For the commands
+//! `predict` and `certify` [`find_answer`] finds the station, and [`EventsAnswer::source`] decides
+//! whether the answer is written while it is computed, without allocating; so do [`prepare`] and
+//! [`answer_into`].
 //! [`load_book`] of `named_files` is published here too. The crates above read the files and the
 //! arguments and write the text.
 #![tactic(auto)]
