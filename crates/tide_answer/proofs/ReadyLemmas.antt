@@ -21,7 +21,8 @@ use Rattle.station_span.specs.Sites.{NamedSpan, site_in}
 use Rattle.station_span.specs.Workings.Finds.{IsFoundIn}
 use Rattle.tide_answer.specs.Streams.{can_stream, is_plain_layout, prepared, streams_by}
 use Rattle.tide_answer.specs.Workings.Requests.{named_span}
-use Rattle.tide_answer.specs.Workings.Found.{found_answer, ready_by}
+use Rattle.tide_answer.specs.FoundAnswers.{ready_by}
+use Rattle.tide_answer.specs.Workings.Found.{found_answer}
 use Rattle.tide_answer.specs.Workings.Streaming.{form_of, whole_of}
 use Rattle.station_span.proofs.FoundLemmas.{excused_then}
 use Rattle.tide_answer.proofs.AnswerLemmas.{lacks_span, named_parts}

@@ -1,8 +1,10 @@
 pub mod Answers
 pub mod Asking
+pub mod FoundAnswers
 pub mod Givens
 pub mod Laws
 pub mod PeakLaws
+pub mod Sources
 pub mod Streams
 pub mod Trials
 pub mod Workings

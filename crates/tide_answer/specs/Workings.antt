@@ -3,6 +3,5 @@ pub mod Found
 pub mod Peaks
 pub mod Requests
 pub mod Rows
-pub mod Sources
 pub mod Streaming
 pub mod Tallies

@@ -4,9 +4,9 @@ ghost use Rattle.std.specs.Prelude.{◌≡◌, if◌then◌else◌, Some, None, 
 ghost use Rattle.decimal_text.specs.Expected.{EqualsUnlessNoMemory};
 ghost use Rattle.tide_fault.specs.Faults.{refusal_is_out_of_memory};
 ghost use Rattle.tide_answer.specs.Answers.{answered};
+ghost use Rattle.tide_answer.specs.FoundAnswers.{answer_by, ready_by};
 ghost use Rattle.tide_answer.specs.Givens.{IsGiven, given_seen};
 ghost use Rattle.tide_answer.specs.Streams.{can_stream, prepared, streams_by};
-ghost use Rattle.tide_answer.specs.Workings.Found.{answer_by, ready_by};
 ghost use Rattle.tide_answer.specs.Workings.Streaming.{form_of};
 
 use crate::certify::certificate_answer;
@@ -38,7 +38,8 @@ pub struct EventsAnswer<'a> {
 }
 
 impl<'a> Model for EventsAnswer<'a> {
-    ghost use Rattle.tide_answer.specs.Workings.Found.{FoundAnswer, found_answer, HasEvents};
+    ghost use Rattle.tide_answer.specs.FoundAnswers.{FoundAnswer};
+    ghost use Rattle.tide_answer.specs.Workings.Found.{found_answer, HasEvents};
 
     ghost Value = { FoundAnswer };
 
@@ -57,7 +58,7 @@ pub enum Source<'a> {
 }
 
 impl<'a> EventsAnswer<'a> {
-    ghost use Rattle.tide_answer.specs.Workings.Sources.{found_in};
+    ghost use Rattle.tide_answer.specs.Sources.{found_in};
     ghost use Rattle.tide_answer.specs.Workings.Found.{found_answer, HasEvents};
 
     /// Returns the answer for the station `found_station` called `name`: a listing of its events in

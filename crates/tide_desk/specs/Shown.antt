@@ -85,7 +85,8 @@ abbrev pub first_minute : List (Option ℤ) → Option ℤ
 first_minute [] = None
 first_minute (reading ∷ more) = reading
 
--- the minute that a clock returned between two of its states, or None if it returned none
+-- the minute of a clock's first reading between two of its states, or None if this reading failed or
+-- there is none
 abbrev pub given_between : ClockState → ClockState → Option ℤ
 given_between before after = first_minute (readings_between before after)
 

@@ -124,8 +124,8 @@ begun (Ok opened) file = unwrap_or file []
 begun (Err failed) file = []
 
 -- The state of files after `open` of `name` with this result: the call is recorded, and a failure
--- is counted. Only if the files are observable (the state has their contents), the unread bytes
--- change: to all bytes of the file, or to none if the call failed.
+-- is counted. The unread bytes become all bytes that the state has of the file, or none if the
+-- call failed.
 abbrev pub files_after_open : {T : Type 0} → Result T Failed → List ℕ → FilesState → FilesState
 files_after_open result name s = record s {
   unread_bytes = begun result (s.file_contents.folder name);
@@ -134,9 +134,8 @@ files_after_open result name s = record s {
 }
 
 -- The state of files after `read` with this result; `buffer` is the caller's buffer after the call.
--- The bytes that were read, the first of `buffer`, are recorded for the latest call of `open`, and,
--- only if the files are observable (the state has their contents), as many unread bytes are
--- dropped. A failure is recorded and counted.
+-- The bytes that were read, the first of `buffer`, are recorded for the latest call of `open`, and
+-- as many unread bytes are dropped. A failure is recorded and counted.
 abbrev pub files_after_read : Result ℕ Failed → List ℕ → FilesState → FilesState
 files_after_read (Ok count) buffer s = record s {
   unread_bytes = drop count s.unread_bytes;
