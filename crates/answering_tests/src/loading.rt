@@ -30,15 +30,10 @@ fn long_file(alloc: Global) -> Result<Vec<u8>, AllocError> {
 }
 
 /// Appends the file `name` to `files`.
-fn add_file(
-    alloc: Global,
-    files: &mut Vec<NamedFile>,
-    name: &str,
-    bytes: &[u8],
-) -> Result<(), AllocError> {
-    let name = Text::from_str(alloc, name)?;
-    let bytes = Bytes::from_vec(bytes.to_vec(alloc)?);
-    Ok(files.push(NamedFile { name, bytes })?)
+fn add_file(rt: &impl Abort, alloc: Global, files: &mut Vec<NamedFile>, name: &str, bytes: &[u8]) {
+    let name = Text::from_str(alloc, name).expect(rt, "a name");
+    let bytes = Bytes::from_vec(bytes.to_vec(alloc).expect(rt, "a text"));
+    files.push(NamedFile { name, bytes }).expect(rt, "files");
 }
 
 /// Appends the file `pier`, a bad one, and one of three pieces.
