@@ -18,8 +18,8 @@ use Rattle.tide_edge.specs.FileStates.{FilesState}
 use Rattle.tide_edge.specs.StoreLaws.{IsLawful, IsOfStore}
 use Rattle.tide_edge.proofs.ReadingLemmas.{all_of_store, once_as, shows_by_law}
 use Rattle.tide_edge.specs.Whole.{IsOutOfMemory, OpenedOnce, Shows, is_read_out, whole, source_of as source_of_reading}
-use Rattle.tide_edge.specs.declared.read_all_fault.ReadAllFault.{ReadAllFault}
-use Rattle.tide_edge.specs.declared.read_all_fault.ReadAllFault.TheVariants as reading
+use Rattle.tide_edge.specs.declared.files.read_all_fault.ReadAllFault.{ReadAllFault}
+use Rattle.tide_edge.specs.declared.files.read_all_fault.ReadAllFault.TheVariants as reading
 use Rattle.tide_fault.specs.declared.slot.Slot.{Slot}
 use Rattle.tide_fault.specs.declared.slot.Slot.TheVariants.{File, Offsets, Zone, Certificate}
 use Rattle.named_files.specs.declared.run_fault.RunFault.{RunFault}

@@ -16,8 +16,8 @@ use Rattle.station_table.specs.declared.fault.OffsetFault.{OffsetFault}
 use Rattle.station_table.specs.declared.fault.OffsetFault.TheVariants as table
 use Rattle.station_table.specs.declared.offsets.Offsets.{Offsets as TableRow}
 use Rattle.station_table.specs.Reasons.{is_out_of_memory as table_is_out_of_memory}
-use Rattle.tide_edge.specs.declared.read_all_fault.ReadAllFault.{ReadAllFault}
-use Rattle.tide_edge.specs.declared.read_all_fault.ReadAllFault.TheVariants as reading
+use Rattle.tide_edge.specs.declared.files.read_all_fault.ReadAllFault.{ReadAllFault}
+use Rattle.tide_edge.specs.declared.files.read_all_fault.ReadAllFault.TheVariants as reading
 use Rattle.decimal_text.specs.Expected.{Source, memory, outside, given, Excuses, Meets}
 use Rattle.tide_edge.specs.FileStates.{Folder}
 use Rattle.question.specs.declared.question.Question.{Question}

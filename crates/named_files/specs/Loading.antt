@@ -5,8 +5,8 @@ use Rattle.decimal_text.specs.Expected.{◌>>=◌}
 use Rattle.harmonics_book.specs.declared.book.Book.{Book as TheBook}
 use Rattle.harmonics_text.specs.declared.fault.BookFault.TheVariants as form
 use Rattle.harmonics_text.specs.Reading.{At, book_of}
-use Rattle.tide_edge.specs.declared.read_all_fault.ReadAllFault.{ReadAllFault}
-use Rattle.tide_edge.specs.declared.read_all_fault.ReadAllFault.TheVariants as reading
+use Rattle.tide_edge.specs.declared.files.read_all_fault.ReadAllFault.{ReadAllFault}
+use Rattle.tide_edge.specs.declared.files.read_all_fault.ReadAllFault.TheVariants as reading
 use Rattle.decimal_text.specs.Expected.{Source, memory, outside, given}
 use Rattle.tide_edge.specs.Whole.{whole}
 use Rattle.named_files.specs.declared.loading.LoadFault.{LoadFault}

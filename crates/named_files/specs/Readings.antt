@@ -17,8 +17,8 @@ use Rattle.named_files.specs.declared.loading.LoadFault.TheVariants as load
 use Rattle.tide_fault.specs.declared.refusal.Refusal.TheVariants.{NoMemory}
 use Rattle.tide_fault.specs.declared.slot.Slot.{Slot}
 use Rattle.tide_fault.specs.declared.slot.Slot.TheVariants as slots
-use Rattle.tide_edge.specs.declared.read_all_fault.ReadAllFault.{ReadAllFault}
-use Rattle.tide_edge.specs.declared.read_all_fault.ReadAllFault.TheVariants as reading
+use Rattle.tide_edge.specs.declared.files.read_all_fault.ReadAllFault.{ReadAllFault}
+use Rattle.tide_edge.specs.declared.files.read_all_fault.ReadAllFault.TheVariants as reading
 use Rattle.tide_edge.specs.FileStates.{Folder}
 use Rattle.tide_edge.specs.Whole.{Allowance, both, no_file, one_file, whole}
 use Rattle.zone_time.specs.declared.zone.Zone.{Zone}

@@ -22,7 +22,7 @@ use Rattle.std.specs.Prelude.{
   Err,
 }
 use Rattle.interval_search.specs.Looking.{Looking}
-use Rattle.tide_edge.specs.declared.writing.WriteFailed.{WriteFailed}
+use Rattle.tide_edge.specs.declared.sink.writing.WriteFailed.{WriteFailed}
 use Rattle.tide_edge.specs.SinkStates.{SinkState, put, sink_failed}
 use Rattle.station_cells.specs.declared.sending.Sent.{Sent}
 

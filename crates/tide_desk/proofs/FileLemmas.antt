@@ -19,7 +19,7 @@ use Rattle.tide_fault.specs.declared.slot.Slot.TheVariants as slots
 use Rattle.tide_answer.specs.declared.text.Answer.{Answer}
 use Rattle.tide_answer.specs.Answers.{answered, answered_without_files, text_by, text_from}
 use Rattle.decimal_text.proofs.ExpectedLemmas.{then_ok}
-use Rattle.tide_edge.specs.declared.read_all_fault.ReadAllFault.TheVariants as reading
+use Rattle.tide_edge.specs.declared.files.read_all_fault.ReadAllFault.TheVariants as reading
 use Rattle.named_files.specs.declared.materials.Materials.{Materials}
 use Rattle.tide_desk.specs.Answers.{answer_from, answer_of, answered_over_optional_file, answered_over_file, answered_over_book, question_of_words, given_with, is_report, minute_for}
 use Rattle.named_files.specs.RunFaults.{refused_over}

@@ -6,7 +6,7 @@ use Rattle.std.proofs.lemmas.List.{drop-drop}
 use Rattle.std.proofs.lemmas.List.Sums.{fold-append}
 use Rattle.std.proofs.Math.Seq.{drop-nil}
 use Rattle.tide_edge.specs.declared.failed.Failed.{Failed}
-use Rattle.tide_edge.specs.declared.named_file.NamedFile.{NamedFile}
+use Rattle.tide_edge.specs.declared.files.named_file.NamedFile.{NamedFile}
 use Rattle.tide_edge.specs.FaultSchedule.{HeldCalls, after_call, answer, is_to_fail}
 use Rattle.tide_edge.specs.Faults.{counted}
 use Rattle.tide_edge.specs.FileStates.{FileContents, begun, files_after_open}

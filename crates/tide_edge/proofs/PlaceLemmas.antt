@@ -4,7 +4,7 @@ use Rattle.std.proofs.lemmas.Grind.{common_steps}
 use Rattle.std.proofs.lemmas.List.Folds.{find_at}
 use Rattle.std.specs.List.{position, position_or_len, slice_get}
 use Rattle.std.specs.Option.{option_map}
-use Rattle.tide_edge.specs.declared.named_file.NamedFile.{NamedFile}
+use Rattle.tide_edge.specs.declared.files.named_file.NamedFile.{NamedFile}
 use Rattle.std.specs.Str.{bytes_eq}
 use Rattle.tide_edge.specs.Memory.{folder_of}
 use Rattle.tide_edge.specs.Workings.OpenFile.{bytes_at}

@@ -7,9 +7,9 @@ use Rattle.std.proofs.lemmas.List.Sums.{sum_by-append}
 use Rattle.std.proofs.lemmas.Bool.{lt-leb, le-leb}
 use Rattle.std.proofs.lemmas.List.Elements.{All-append}
 use Rattle.tide_edge.specs.declared.failed.Failed.{Failed}
-use Rattle.tide_edge.specs.declared.piece.TheConstants.{PIECE}
-use Rattle.tide_edge.specs.declared.read_all_fault.ReadAllFault.{ReadAllFault}
-use Rattle.tide_edge.specs.declared.read_all_fault.ReadAllFault.TheVariants.{Failed as ReadFailed, TooLong, NoMemory}
+use Rattle.tide_edge.specs.declared.files.piece.TheConstants.{PIECE}
+use Rattle.tide_edge.specs.declared.files.read_all_fault.ReadAllFault.{ReadAllFault}
+use Rattle.tide_edge.specs.declared.files.read_all_fault.ReadAllFault.TheVariants.{Failed as ReadFailed, TooLong, NoMemory}
 use Rattle.decimal_text.specs.Expected.{Source, Meets, is_outside_fault}
 use Rattle.tide_edge.specs.Faults.{faults_after}
 use Rattle.tide_edge.specs.FileStates.{FilesState, Opening, Openings, FileContents, files_after_open, files_after_read, just_opened, as_list, opening_after_failure, opening_after_read, openings_of}

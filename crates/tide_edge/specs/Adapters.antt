@@ -7,11 +7,11 @@ use Rattle.std.specs.declared.io.traits.Read as Read
 use Rattle.std.specs.declared.io.traits.Seek as Seek
 use Rattle.std.specs.declared.io.traits.Write as Write
 use Rattle.tide_edge.specs.declared.failed.Failed.{Failed}
-use Rattle.tide_edge.specs.declared.host_door.HostDoor.{HostDoor}
-use Rattle.tide_edge.specs.declared.host_line.HostLine.{HostLine}
-use Rattle.tide_edge.specs.declared.host_files.HostFiles.{HostFiles}
-use Rattle.tide_edge.specs.declared.host_sink.HostSink.{HostSink}
-use Rattle.tide_edge.specs.declared.memory_door.MemoryDoor.{MemoryDoor}
+use Rattle.tide_edge.specs.declared.door.of_host.HostDoor.{HostDoor}
+use Rattle.tide_edge.specs.declared.door.host_line.HostLine.{HostLine}
+use Rattle.tide_edge.specs.declared.files.of_host.HostFiles.{HostFiles}
+use Rattle.tide_edge.specs.declared.sink.of_host.HostSink.{HostSink}
+use Rattle.tide_edge.specs.declared.door.in_memory.MemoryDoor.{MemoryDoor}
 use Rattle.tide_edge.specs.Memory.{HeldDoor}
 
 -- The writer of the machine that a sink writes to.

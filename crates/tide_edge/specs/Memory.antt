@@ -34,7 +34,7 @@ use Rattle.std.specs.Prelude.{
 use Rattle.std.specs.List.{list_all}
 use Rattle.std.specs.Option.{option_map}
 use Rattle.std.specs.Str.{bytes_eq}
-use Rattle.tide_edge.specs.declared.named_file.NamedFile.{NamedFile}
+use Rattle.tide_edge.specs.declared.files.named_file.NamedFile.{NamedFile}
 use Rattle.tide_edge.specs.declared.failed.Failed.{Failed}
 use Rattle.tide_edge.specs.FaultSchedule.{HeldCalls, answer, is_to_fail, after_call, calls_after, schedule_of}
 use Rattle.tide_edge.specs.Clocks.{ClockState, held_readings}

@@ -31,9 +31,9 @@ use Rattle.std.specs.Prelude.{
 use Rattle.decimal_text.specs.Expected.{Source, Meets, memory, outside, given}
 use Rattle.tide_edge.specs.Faults.{faults_after}
 use Rattle.tide_edge.specs.FileStates.{FilesState, Opening, Openings, openings_of}
-use Rattle.tide_edge.specs.declared.read_all_fault.ReadAllFault.{ReadAllFault}
-use Rattle.tide_edge.specs.declared.read_all_fault.ReadAllFault.TheVariants.{Failed, TooLong, NoMemory}
-use Rattle.tide_edge.specs.declared.piece.TheConstants.{PIECE}
+use Rattle.tide_edge.specs.declared.files.read_all_fault.ReadAllFault.{ReadAllFault}
+use Rattle.tide_edge.specs.declared.files.read_all_fault.ReadAllFault.TheVariants.{Failed, TooLong, NoMemory}
+use Rattle.tide_edge.specs.declared.files.piece.TheConstants.{PIECE}
 
 -- The expected result of reading a whole file with these contents (None if there is no such file):
 -- its bytes if there are at most `limit`, else TooLong; Failed if there is no file.

@@ -3,7 +3,12 @@
 ghost use Rattle.std.specs.Prelude.{◌≡◌, IfOk};
 ghost use Rattle.tide_edge.specs.Clocks.{ClockState, IsClockMinute, IsLawful, clock_after};
 
+mod in_memory;
+mod of_host;
+
 use crate::failed::Failed;
+pub use in_memory::FixedClock;
+pub use of_host::HostClock;
 
 /// A clock that shows the present minute.
 ///

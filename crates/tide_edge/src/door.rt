@@ -12,7 +12,20 @@ ghost use Rattle.tide_edge.specs.Doors.{
   IsUntouched,
 };
 
+mod connection;
+mod connections;
+mod host_line;
+mod in_memory;
+mod listener_state;
+mod of_host;
+mod open_line;
+mod pieces;
+mod replies;
+mod request_queue;
+
 use crate::failed::Failed;
+pub use in_memory::MemoryDoor;
+pub use of_host::HostDoor;
 
 /// A listening port: it accepts connections one after the other, reads the request of the open
 /// connection, and writes its reply.

@@ -4,8 +4,27 @@ ghost use Rattle.std.specs.Prelude.{◌≡◌, ◌<◌, ◌≤◌, length, IfOk}
 ghost use Rattle.tide_edge.specs.FileStates.{FilesState, IsNoneOpen, files_after_open, files_after_read};
 ghost use Rattle.tide_edge.specs.StoreLaws.{IsLawful};
 
+mod call;
+mod in_memory;
+mod named_file;
+mod of_host;
+mod open_log;
+mod opening;
+mod piece;
+mod read_all_fault;
+mod read_through;
+mod reading;
+mod receiver;
+
 use crate::failed::Failed;
 use decimal_text::Text;
+pub use in_memory::MemoryFiles;
+pub use named_file::NamedFile;
+pub use of_host::HostFiles;
+pub use piece::PIECE;
+pub use read_all_fault::ReadAllFault;
+pub use reading::{pass_file, read_all};
+pub use receiver::Receiver;
 
 /// Files that are opened by name, at most one at a time, and read from beginning to end.
 ///

@@ -13,14 +13,10 @@ ghost use Rattle.tide_edge.specs.Memory.{
   door_state,
 };
 
-use crate::clock::Clock;
-use crate::door::Door;
-use crate::files::Files;
-use crate::fixed_clock::FixedClock;
-use crate::memory_door::MemoryDoor;
-use crate::memory_files::MemoryFiles;
-use crate::memory_sink::MemorySink;
-use crate::sink::Sink;
+use crate::clock::{Clock, FixedClock};
+use crate::door::{Door, MemoryDoor};
+use crate::files::{Files, MemoryFiles};
+use crate::sink::{MemorySink, Sink};
 
 /// Proves that contracts know the contents of files in memory (`is_observable` is true), and that
 /// the files are steady if no call is to fail: opening and reading an existing file then never

@@ -9,65 +9,26 @@
 #![tactic(auto)]
 
 mod clock;
-mod connection;
 mod count;
 mod door;
 mod failed;
 mod fault_schedule;
-mod file_call;
 mod files;
-mod fixed_clock;
-mod host_clock;
-mod host_door;
 mod host_fault;
-mod host_files;
-mod host_line;
-mod host_sink;
 mod laws;
-mod listener_state;
-mod memory_door;
-mod memory_files;
-mod memory_sink;
-mod named_file;
-mod open_line;
-mod open_log;
-mod opening;
-mod passed;
-mod piece;
-mod pieces;
-mod read_all_fault;
-mod read_through;
-mod reading;
-mod receiver;
-mod replies;
-mod request_queue;
 mod rows;
 mod sink;
 mod unread_bytes;
-mod write_through;
-mod writing;
 
-pub use clock::Clock;
-pub use door::Door;
+pub use clock::{Clock, FixedClock, HostClock};
+pub use door::{Door, HostDoor, MemoryDoor};
 pub use failed::Failed;
-pub use files::Files;
-pub use fixed_clock::FixedClock;
-pub use host_clock::HostClock;
-pub use host_door::HostDoor;
-pub use host_files::HostFiles;
-pub use host_sink::HostSink;
+pub use files::{
+    Files, HostFiles, MemoryFiles, NamedFile, PIECE, ReadAllFault, Receiver, pass_file, read_all,
+};
 pub use laws::{
     fixed_clock_is_observable, memory_door_is_observable, memory_files_are_observable,
     memory_sink_is_observable,
 };
-pub use memory_door::MemoryDoor;
-pub use memory_files::MemoryFiles;
-pub use memory_sink::MemorySink;
-pub use named_file::NamedFile;
-pub use piece::PIECE;
-pub use read_all_fault::ReadAllFault;
-pub use reading::{pass_file, read_all};
-pub use receiver::Receiver;
 pub use rows::sample_states;
-pub use sink::Sink;
-pub use writing::{WriteFailed, write_all};
+pub use sink::{HostSink, MemorySink, Sink, WriteFailed, write_all};

@@ -6,9 +6,9 @@ ghost use Rattle.tide_edge.specs.Doors.{listen_requested, after_next, append_to_
 ghost use Rattle.tide_edge.specs.Faults.{counted, Rose};
 ghost use Rattle.tide_edge.specs.Memory.{Open, Read, files_now, files_state, folder_of, read_result, is_refused, write_count};
 ghost use Rattle.tide_edge.specs.Whole.{whole};
-ghost use Rattle.tide_edge.specs.declared.piece.TheConstants.{PIECE};
+ghost use Rattle.tide_edge.specs.declared.files.piece.TheConstants.{PIECE};
 
-use crate::read_all_fault::ReadAllFault;
+use crate::files::ReadAllFault;
 
 /// Proves computed examples: which contents are read whole within a limit, how counts of failures
 /// grow and saturate, which calls on objects in memory fail, and what `open`, `read`, `write` and

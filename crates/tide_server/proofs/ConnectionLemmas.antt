@@ -7,7 +7,7 @@ use Rattle.std.proofs.lemmas.Grind.{common_steps}
 use Rattle.std.proofs.lemmas.List.{take-append-le, take-take}
 use Rattle.tide_edge.specs.declared.failed.Failed.{Failed}
 use Rattle.tide_edge.specs.Doors.{DoorState, door_after_read, just_taken}
-use Rattle.tide_edge.specs.declared.piece.TheConstants.{PIECE}
+use Rattle.tide_edge.specs.declared.files.piece.TheConstants.{PIECE}
 use Rattle.tide_server.specs.declared.limits.TheConstants.{LONGEST}
 use Rattle.http_rows.specs.Heads.{head_end, head_length}
 use Rattle.http_rows.specs.Rows.{ReplyRow, IsRow, is_settled}

@@ -32,7 +32,7 @@ use Rattle.std.specs.Prelude.{
 use Rattle.tide_edge.specs.Clocks.{ClockState, clock_after, next_minute}
 use Rattle.tide_edge.specs.Doors.{Connection, connections_of}
 use Rattle.tide_edge.specs.FileStates.{as_list}
-use Rattle.tide_edge.specs.declared.piece.TheConstants.{PIECE}
+use Rattle.tide_edge.specs.declared.files.piece.TheConstants.{PIECE}
 use Rattle.tide_server.specs.declared.served_data.ServedData.{ServedData}
 use Rattle.tide_server.specs.Serving.{Answers, Exchange, IsEnough, RoseBy, clock_failed, has_byte}
 

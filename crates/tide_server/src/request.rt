@@ -15,7 +15,7 @@ pub(crate) struct Request {
 
 impl Model for Request {
     ghost use Rattle.std.specs.Prelude.{◌≡◌, ◌+◌, ◌≤◌, ℕ, List, vec_len, vec_capacity};
-    ghost use Rattle.tide_edge.specs.declared.piece.TheConstants.{PIECE};
+    ghost use Rattle.tide_edge.specs.declared.files.piece.TheConstants.{PIECE};
     ghost use Rattle.tide_server.specs.declared.limits.TheConstants.{LONGEST};
 
     ghost Value = { List ℕ };
@@ -27,7 +27,7 @@ impl Model for Request {
 
 impl Request {
     ghost use Rattle.std.specs.Prelude.{◌≡◌, ◌+◌, ◌<◌, ◌≤◌, ◌++◌, ℕ, List, IsTrue, [], length, take, IfOk};
-    ghost use Rattle.tide_edge.specs.declared.piece.TheConstants.{PIECE};
+    ghost use Rattle.tide_edge.specs.declared.files.piece.TheConstants.{PIECE};
     ghost use Rattle.tide_edge.specs.Doors.{door_after_read};
     ghost use Rattle.tide_server.specs.declared.limits.TheConstants.{LONGEST};
 

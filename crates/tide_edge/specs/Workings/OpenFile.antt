@@ -2,7 +2,7 @@
 use Rattle.std.specs.Prelude.{◌≡◌, ℕ, List, [], drop, Option, Some, None}
 use Rattle.std.specs.List.{slice_get}
 use Rattle.std.specs.Option.{option_map_or}
-use Rattle.tide_edge.specs.declared.named_file.NamedFile.{NamedFile}
+use Rattle.tide_edge.specs.declared.files.named_file.NamedFile.{NamedFile}
 use Rattle.tide_edge.specs.FaultSchedule.{HeldCalls}
 use Rattle.tide_edge.specs.Memory.{HeldFiles, files_now}
 

@@ -4,9 +4,9 @@ use Rattle.decimal_text.specs.Expected.{Meets, is_outside_fault}
 use Rattle.tide_edge.specs.Faults.{faults_after}
 use Rattle.tide_edge.specs.FileStates.{FilesState, Opening, Openings, just_opened}
 use Rattle.tide_edge.specs.Whole.{Shows, source_of, whole}
-use Rattle.tide_edge.specs.declared.piece.TheConstants.{PIECE}
-use Rattle.tide_edge.specs.declared.read_all_fault.ReadAllFault.{ReadAllFault}
-use Rattle.tide_edge.specs.declared.read_all_fault.ReadAllFault.TheVariants.{TooLong}
+use Rattle.tide_edge.specs.declared.files.piece.TheConstants.{PIECE}
+use Rattle.tide_edge.specs.declared.files.read_all_fault.ReadAllFault.{ReadAllFault}
+use Rattle.tide_edge.specs.declared.files.read_all_fault.ReadAllFault.TheVariants.{TooLong}
 
 -- All bytes that a receiver got, if the result is a success; else the error.
 abbrev pub all_taken : List ℕ → Result (Unit {0}) ReadAllFault → Result (List ℕ) ReadAllFault

@@ -3,8 +3,8 @@ use Rattle.std.specs.Bool.{IsTrue}
 use Rattle.decimal_text.specs.Expected.{Meets}
 use Rattle.tide_edge.specs.Whole.{source_of}
 use Rattle.tide_edge.specs.Workings.MemoryLaws.{memory_store}
-use Rattle.tide_edge.specs.declared.read_all_fault.ReadAllFault.{ReadAllFault}
-use Rattle.tide_edge.specs.declared.read_all_fault.ReadAllFault.TheVariants.{Failed, TooLong, NoMemory}
+use Rattle.tide_edge.specs.declared.files.read_all_fault.ReadAllFault.{ReadAllFault}
+use Rattle.tide_edge.specs.declared.files.read_all_fault.ReadAllFault.TheVariants.{Failed, TooLong, NoMemory}
 use Rattle.reading_tests.proofs.edge.read_steady.Goals as goal
 
 -- over steady files the result is the expected one, unless memory ran out

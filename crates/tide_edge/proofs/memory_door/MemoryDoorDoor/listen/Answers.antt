@@ -1,5 +1,0 @@
-use mathlib.Core.Logic.{∥∥₁_map}
-use Rattle.tide_edge.proofs.memory_door.MemoryDoorDoor.listen.Goals as goal
-
-pub invariant_of-self : goal.invariant_of-self
-invariant_of-self c = record { tied = ∥∥₁_map c.args.self.now.tied (λ t. rw c.listen.ensures.after (t.0, λ is. absurd (cc))) }

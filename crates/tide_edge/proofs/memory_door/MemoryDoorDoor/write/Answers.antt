@@ -1,6 +1,0 @@
-use mathlib.Core.Logic.{∥∥₁_map}
-use Rattle.tide_edge.proofs.DoorLemmas.{tied_write}
-use Rattle.tide_edge.proofs.memory_door.MemoryDoorDoor.write.Goals as goal
-
-pub invariant_of-self : goal.invariant_of-self
-invariant_of-self c = record { tied = ∥∥₁_map c.args.self.now.tied (λ t. rw c.write.ensures.after (tied_write c.args.self.now.queue c.args.piece.now t)) }
