@@ -1,6 +1,6 @@
 //! The answer to a command line, or the first reason why there is none.
 
-ghost use Rattle.std.specs.Prelude.{◌≡◌, ℤ, false, IsTrue, Option, None, IsOk, IfOk, IfErr, OnErr, if◌then◌else◌, map};
+ghost use Rattle.std.specs.Prelude.{◌≡◌, ◌×◌, ℤ, false, IsTrue, Option, None, IsOk, IfOk, IfErr, OnErr, if◌then◌else◌, map};
 ghost use Rattle.decimal_text.specs.Expected.{EqualsUnlessNoMemory};
 ghost use Rattle.named_files.specs.RunFaults.{reading_failed, refused_over, faulty, is_out_of_memory};
 ghost use Rattle.named_files.specs.Opened.{AreShown, AreShownFor, IsResultOf, failing_file, names_to};
@@ -58,8 +58,8 @@ pub fn answer_words<F: Files, K: Clock>(
     ensures reads { let parsed_question = question_of_words (map sheet_spec sheets.items) words.now in
         WentOn (reading_failed result) (ReadsClock parsed_question) (allowed_by parsed_question)
         (sources (F.state files.old) (K.state clock.old)) (sources (F.state files.new) (K.state clock.new)) }
-    ensures unopened { ¬ (NamesFile (question_of_words (map sheet_spec sheets.items) words.now)) → files.new ≡ files.old }
-    ensures clock_unread { ¬ (ReadsClock (question_of_words (map sheet_spec sheets.items) words.now)) → clock.new ≡ clock.old }
+    ensures untouched { let parsed_question = question_of_words (map sheet_spec sheets.items) words.now in
+        (¬ (NamesFile parsed_question) → files.new ≡ files.old) × (¬ (ReadsClock parsed_question) → clock.new ≡ clock.old) }
     ensures last { let parsed_question = question_of_words (map sheet_spec sheets.items) words.now in
         IsReadLast (ReadsClock parsed_question) (clock.new ≡ clock.old) (AreShownFor parsed_question) (λ folders. HasFiles folders parsed_question)
         (sources (F.state files.old) (K.state clock.old)) (sources (F.state files.new) (K.state clock.new)) result }

@@ -21,6 +21,9 @@ returns-in_err-question-clause-reads g c =
     rw (failed_at c.from_residual.result _ c.from_residual.ensures.1)
     (went_nowhere _ _ (g.F.Files.state c.args.files.now) (g.K.Clock.state c.args.clock.now))
 
+pub returns-in_err-question-clause-untouched : goal.returns-in_err-question-clause-untouched
+returns-in_err-question-clause-untouched g c = (λ nameless. refl, λ unasked. refl)
+
 pub returns-in_err-question-clause-last : goal.returns-in_err-question-clause-last
 returns-in_err-question-clause-last g c =
     last_unopened _ _ _ _ (g.F.Files.state c.args.files.now) (g.K.Clock.state c.args.clock.now) c.from_residual.result refl
@@ -41,12 +44,11 @@ returns-in-Some-clause-reads g c =
     (sources (g.F.Files.state c.answer_over-answered.new.files) (g.K.Clock.state c.answer_over-answered.new.clock))
     c.in_ok-question.ensures.exact c.in-Some.is (rw c.new-valid.ensures at c.answer_over-answered.ensures.reads)
 
-pub returns-in-Some-clause-unopened : goal.returns-in-Some-clause-unopened
-returns-in-Some-clause-unopened g c =
-    λ nameless. absurd (nameless (names_file _ c.in_ok-question.question c.in-Some.name c.in_ok-question.ensures.exact c.in-Some.is))
-
-pub returns-in-Some-clause-clock_unread : goal.returns-in-Some-clause-clock_unread
-returns-in-Some-clause-clock_unread g c = rw c.in_ok-question.ensures.exact (rw c.new-valid.ensures at c.answer_over-answered.ensures.clock_unread)
+pub returns-in-Some-clause-untouched : goal.returns-in-Some-clause-untouched
+returns-in-Some-clause-untouched g c = (
+      λ nameless. absurd (nameless (names_file _ c.in_ok-question.question c.in-Some.name c.in_ok-question.ensures.exact c.in-Some.is)),
+      rw c.in_ok-question.ensures.exact (rw c.new-valid.ensures at c.answer_over-answered.ensures.clock_unread),
+    )
 
 pub returns-in-Some-clause-last : goal.returns-in-Some-clause-last
 returns-in-Some-clause-last g c =
@@ -70,6 +72,9 @@ pub returns-in-None-clause-reads : goal.returns-in-None-clause-reads
 returns-in-None-clause-reads g c =
     rw c.answer_without-answered.ensures.read
     (went_nowhere _ _ (g.F.Files.state c.args.files.now) (g.K.Clock.state c.args.clock.now))
+
+pub returns-in-None-clause-untouched : goal.returns-in-None-clause-untouched
+returns-in-None-clause-untouched g c = (λ nameless. refl, λ unasked. refl)
 
 pub returns-in-None-clause-last : goal.returns-in-None-clause-last
 returns-in-None-clause-last g c =

@@ -25,8 +25,8 @@ returns-in-Ok g c =
       reads = rw c.write_reply-status.ensures.read c.in-Ok.ensures.reads;
       unwritten = c.write_reply-status.ensures.unwritten;
       unprinted = c.write_reply-status.ensures.unprinted;
-      unopened = c.in-Ok.ensures.unopened;
-      unread = c.in-Ok.ensures.clock_unread;
+      unopened = c.in-Ok.ensures.untouched.0;
+      unread = c.in-Ok.ensures.untouched.1;
       read_last = λ t no.
           own_last _ c.args.words.now before after (Ok c.in-Ok.reply) _ law file_contents c.in-Ok.ensures.shown c.in-Ok.ensures.last t no;
       read_once = λ t asks has settled.
@@ -53,8 +53,8 @@ returns-in-Err g c =
       reads = rw c.report.ensures.read c.in-Err.ensures.reads;
       unwritten = untouched c.report.result c.args.out.now;
       unprinted = reported_silent c.in-Err.none c.report.result _ _ c.args.err.now c.report.new.err c.report.ensures.reported;
-      unopened = c.in-Err.ensures.unopened;
-      unread = c.in-Err.ensures.clock_unread;
+      unopened = c.in-Err.ensures.untouched.0;
+      unread = c.in-Err.ensures.untouched.1;
       read_last = λ t no.
           own_last _ c.args.words.now before after (Err c.in-Err.none) _ law file_contents c.in-Err.ensures.shown c.in-Err.ensures.last t no;
       read_once = λ t asks has settled.
