@@ -1,3 +1,5 @@
+pub mod CellLemmas
+pub mod CellSendLemmas
 pub mod FollowLemmas
 pub mod FoundLemmas
 pub mod HeldLemmas
@@ -5,6 +7,7 @@ pub mod LevelLemmas
 pub mod MovableLemmas
 pub mod NameLemmas
 pub mod PeakLemmas
+pub mod RejectionLemmas
 pub mod SiteLemmas
 pub mod SpanLemmas
 pub mod FreshLemmas

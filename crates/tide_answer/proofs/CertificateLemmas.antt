@@ -34,7 +34,7 @@ use Rattle.station_span.specs.Sites.{Site}
 use Rattle.tide_answer.specs.Workings.Certifying.{certificate_in}
 use Rattle.tide_answer.specs.Workings.Streaming.{certificate_for}
 use Rattle.station_span.specs.Workings.Spans.{IsBeside, IsFound}
-use Rattle.station_cells.proofs.CellLemmas.{IsOf, accepted_track, few_track, usual_track}
+use Rattle.station_span.proofs.CellLemmas.{IsOf, accepted_track, few_track, usual_track}
 use Rattle.station_span.proofs.FollowLemmas.{few_cells, found_valid_over}
 use Rattle.station_span.proofs.HeldLemmas.{found_for}
 use Rattle.station_span.proofs.MovableLemmas.{millionths_small}

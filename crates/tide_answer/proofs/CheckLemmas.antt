@@ -33,10 +33,10 @@ use Rattle.tide_answer.specs.Answers.{checked, judged, version_of}
 use Rattle.tide_answer.specs.Asking.{request_by_certificate}
 use Rattle.station_span.specs.Following.{asks_slack, slack_times, slack_plus, if_asked, followed_by, events_of}
 use Rattle.station_span.specs.Sites.{Site, site_in}
-use Rattle.station_cells.specs.Rejections.{HasFewCells}
+use Rattle.station_span.specs.Rejections.{HasFewCells}
 use Rattle.tide_answer.specs.Workings.Certifying.{judged_in, rejection_in}
 use Rattle.station_span.specs.Workings.Spans.{IsFound, IsInRange}
-use Rattle.station_cells.proofs.RejectionLemmas.{all_accepted, tracks_short}
+use Rattle.station_span.proofs.RejectionLemmas.{all_accepted, tracks_short}
 use Rattle.tide_answer.proofs.CertificateLemmas.{looked_few}
 use Rattle.station_span.specs.declared.found_station.FoundStation.{FoundStation}
 use Rattle.station_span.specs.Workings.Finds.{site_of}

@@ -28,14 +28,14 @@ use Rattle.station_table.specs.Offsets.{IsTable}
 use Rattle.zone_time.specs.declared.zone.Zone.{Zone}
 use Rattle.station_span.specs.declared.span_request.SpanRequest.{SpanRequest}
 use Rattle.station_span.specs.declared.purpose.Purpose.TheVariants.{Events}
-use Rattle.station_cells.specs.declared.rejection.Rejection.{Rejection}
+use Rattle.station_span.specs.declared.rejection.Rejection.{Rejection}
 use Rattle.tide_answer.specs.declared.text.Answer.{Answer}
 use Rattle.listing.specs.ByLayout.{events_text}
 use Rattle.tide_answer.specs.Answers.{predicted, certified, checked, certificate_by, certificate_from, version_of, judged, text_of_events}
 use Rattle.tide_answer.specs.Asking.{request_by_certificate}
 use Rattle.station_span.specs.Following.{asks_slack, slack_times, slack_plus, if_asked, followed, followed_by, events_of, tracks_of}
 use Rattle.tide_answer.specs.Laws.{IsRequestable, AcceptsListing, ListsTrack, ListsEvents, AcceptsWhatIsCertified, AcceptsOnlyInShort, AcceptsOnlyWhatIsTrue, CertifiesInShort}
-use Rattle.station_cells.specs.Rejections.{slack_fault, fault_from, track_fault, rejection_of}
+use Rattle.station_span.specs.Rejections.{slack_fault, fault_from, track_fault, rejection_of}
 use Rattle.station_span.specs.Sites.{Site, site_in}
 use Rattle.tide_answer.specs.Workings.Certifying.{rejection_in}
 use Rattle.station_span.specs.Workings.Spans.{IsFound, IsInRange}

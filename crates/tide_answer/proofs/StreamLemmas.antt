@@ -29,7 +29,7 @@ use Rattle.station_span.specs.declared.purpose.Purpose.TheVariants.{Events}
 use Rattle.station_span.specs.Following.{followed, tracks_of}
 use Rattle.station_span.specs.Workings.Finds.{AreReferences, site_of}
 use Rattle.station_span.proofs.HeldLemmas.{found_for}
-use Rattle.station_cells.specs.Sending.{left_count}
+use Rattle.station_span.specs.CellSending.{left_count}
 use Rattle.tide_answer.specs.Workings.Streaming.{head_text, tracks_text, HasCells}
 use Rattle.tide_answer.specs.Workings.Certifying.{certificate_in}
 use Rattle.station_span.specs.Workings.Spans.{AreMoments}

@@ -14,7 +14,7 @@ use Rattle.harmonics_book.specs.declared.book.Station.{Station}
 use Rattle.event_list.specs.declared.span.Span.{Span}
 use Rattle.station_span.specs.declared.purpose.Purpose.TheVariants.{Events}
 use Rattle.tide_fault.specs.declared.refusal.Refusal.{Refusal}
-use Rattle.station_cells.specs.declared.rejection.Rejection.{Rejection}
+use Rattle.station_span.specs.declared.rejection.Rejection.{Rejection}
 use Rattle.station_span.specs.declared.found_station.FoundStation.{FoundStation}
 use Rattle.station_span.specs.Workings.Finds.{site_of}
 use Rattle.station_span.proofs.HeldLemmas.{found_for}
@@ -22,7 +22,7 @@ use Rattle.tide_answer.specs.declared.tally.Tally.{Tally}
 use Rattle.station_span.specs.Following.{followed, events_of, tracks_of}
 use Rattle.station_span.specs.Sites.{Site, site_in}
 use Rattle.tide_answer.specs.Trials.{plus, station_tally, tally_on, tally_at, tally_by, trial_span}
-use Rattle.station_cells.specs.Rejections.{HasFewCells}
+use Rattle.station_span.specs.Rejections.{HasFewCells}
 use Rattle.tide_answer.specs.Workings.Certifying.{certificate_in, rejection_in}
 use Rattle.tide_answer.specs.Workings.Tallies.{IsUpTo}
 use Rattle.station_span.proofs.FoundLemmas.{excused_then}

@@ -84,13 +84,13 @@ use Rattle.tide_answer.specs.declared.inputs.Given.{Given}
 use Rattle.station_span.specs.declared.purpose.Purpose.TheVariants.{Events, Levels}
 use Rattle.tide_fault.specs.declared.refusal.Refusal.{Refusal}
 use Rattle.tide_fault.specs.declared.refusal.Refusal.TheVariants.{NoMemory, NotACertificate, NoStation, TooManyRows}
-use Rattle.station_cells.specs.declared.rejection.Rejection.{Rejection}
+use Rattle.station_span.specs.declared.rejection.Rejection.{Rejection}
 use Rattle.tide_answer.specs.declared.listed.Listed.{Listed}
 use Rattle.tide_answer.specs.declared.text.Answer.{Answer}
 use Rattle.tide_answer.specs.Asking.{request_by_question, request_from_minute, request_by_certificate, request_by_peak_certificate}
 use Rattle.tide_fault.specs.Faults.{refusal_of_cert}
 use Rattle.station_span.specs.Following.{followed_by, events_of, tracks_of, cells_of}
-use Rattle.station_cells.specs.Rejections.{rejection_of, rejection_line}
+use Rattle.station_span.specs.Rejections.{rejection_of, rejection_line}
 use Rattle.station_span.specs.Levels.{is_rising_at, level_at, level_in}
 use Rattle.station_span.specs.Peaks.{highest_of, highest_site, highest_verdict}
 use Rattle.station_span.specs.Sites.{Site, site_in, station_in}

@@ -36,10 +36,10 @@ use Rattle.station_span.specs.declared.span_request.SpanRequest.{SpanRequest}
 use Rattle.station_span.specs.declared.purpose.Purpose.TheVariants.{Events}
 use Rattle.tide_fault.specs.declared.refusal.Refusal.{Refusal}
 use Rattle.tide_fault.specs.declared.refusal.Refusal.TheVariants.{BadSample}
-use Rattle.station_cells.specs.declared.rejection.Rejection.{Rejection}
+use Rattle.station_span.specs.declared.rejection.Rejection.{Rejection}
 use Rattle.tide_answer.specs.declared.tally.Tally.{Tally}
 use Rattle.station_span.specs.Following.{followed, events_of, tracks_of}
-use Rattle.station_cells.specs.Rejections.{rejection_of}
+use Rattle.station_span.specs.Rejections.{rejection_of}
 use Rattle.station_span.specs.Sites.{Site, site_in}
 
 -- the span of the trial: from 2000-12-01T00:00Z up to 2001-02-01T00:00Z, not included, without a mark

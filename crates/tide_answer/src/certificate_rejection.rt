@@ -1,7 +1,7 @@
 //! The check of a certificate's tracks.
 
 ghost use Rattle.std.specs.Prelude.{◌≡◌};
-ghost use Rattle.station_cells.specs.Rejections.{HasFewCells};
+ghost use Rattle.station_span.specs.Rejections.{HasFewCells};
 ghost use Rattle.station_span.specs.declared.purpose.Purpose.{Purpose};
 ghost use Rattle.station_span.specs.Workings.Finds.{site_of};
 ghost use Rattle.tide_answer.specs.Answers.{version_of};
@@ -10,8 +10,7 @@ ghost use Rattle.tide_answer.specs.Workings.Certifying.{rejection_in};
 
 use cert_text::Certificate;
 use rate_bound::Version;
-use station_cells::{Rejection, rejection_over};
-use station_span::{FoundStation, mark_curve, slack_curve, turn_curve};
+use station_span::{FoundStation, Rejection, mark_curve, rejection_over, slack_curve, turn_curve};
 
 /// Returns the first fault of the tracks (lists of cells) of the certificate `cert`, or `None` if
 /// all are right. The checks in order: the slack track is present exactly if the station's slack

@@ -9,8 +9,7 @@ use crate::tracks::find_tracks;
 use cert_text::{Certificate, write_certificate};
 use curve_law::Tracks;
 use decimal_text::Text;
-use station_cells::cell_count;
-use station_span::{FoundStation, SpanRequest};
+use station_span::{FoundStation, SpanRequest, cell_count};
 use std::alloc::{AllocError, Global};
 
 /// Returns the answer with the certificate, by the rules of version 2, of the events of the station

@@ -27,6 +27,7 @@ mod inputs;
 mod laws;
 mod listed;
 mod listing_sending;
+mod name_sending;
 mod peak_check;
 mod peak_laws;
 mod predict;
@@ -52,8 +53,7 @@ pub use peak_laws::{
     peak_certified_is_short,
 };
 pub use ready::{Ready, answer_into, can_stream, prepare};
-pub use station_cells::Rejection;
-pub use station_span::{Purpose, SpanRequest, StationData};
+pub use station_span::{Purpose, Rejection, SpanRequest, StationData};
 pub use streaming::Stream;
 pub use text::Answer;
 pub use tide_fault::{Fault, Refusal, Slot, Status, fault_line, fault_status};

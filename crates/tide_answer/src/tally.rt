@@ -24,7 +24,7 @@ ghost use Rattle.tide_answer.specs.Workings.Tallies.{IsUpTo};
 use curve_law::{Cell, Cells, Events, Tracks};
 use decimal_text::Bytes;
 use event_list::Span;
-use station_cells::{Rejection, cell_count};
+use station_span::{Rejection, cell_count};
 use std::alloc::{AllocError, Global};
 
 /// The counts that the command `trial` makes at one station, or their sums over several stations.

@@ -7,8 +7,7 @@ ghost use Rattle.station_span.specs.Workings.Finds.{site_of};
 
 use curve_law::Tracks;
 use rate_bound::Version;
-use station_cells::tracks_over;
-use station_span::{FoundStation, mark_curve, slack_curve, turn_curve};
+use station_span::{FoundStation, mark_curve, slack_curve, tracks_over, turn_curve};
 use std::alloc::{AllocError, Global};
 
 /// Returns the cells (stretches of minutes with at most one event) of each track (high and low

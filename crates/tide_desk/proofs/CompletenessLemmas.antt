@@ -24,8 +24,8 @@ use Rattle.question.specs.Worked.{bare}
 use Rattle.question.specs.declared.command.Command.TheVariants.{Check, PeakCheck, Stations}
 use Rattle.question.specs.declared.question.Question.{Question}
 use Rattle.report_sheets.specs.Sheets.{SheetSpec}
-use Rattle.station_cells.specs.declared.rejection.Rejection.{Rejection}
-use Rattle.station_cells.specs.Rejections.{rejection_line}
+use Rattle.station_span.specs.declared.rejection.Rejection.{Rejection}
+use Rattle.station_span.specs.Rejections.{rejection_line}
 use Rattle.station_span.specs.declared.purpose.Purpose.TheVariants.{Events}
 use Rattle.station_span.specs.Peaks.{highest_site}
 use Rattle.station_span.specs.Sites.{Site, site_in}

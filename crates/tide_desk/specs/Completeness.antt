@@ -15,7 +15,7 @@ use Rattle.named_files.specs.Readings.{book_named, certificate_named, files_in, 
 use Rattle.question.specs.declared.command.Command.TheVariants.{Check, PeakCheck}
 use Rattle.question.specs.declared.question.Question.{Question}
 use Rattle.report_sheets.specs.Sheets.{SheetSpec}
-use Rattle.station_cells.specs.Rejections.{rejection_of}
+use Rattle.station_span.specs.Rejections.{rejection_of}
 use Rattle.station_span.specs.Following.{followed_by}
 use Rattle.station_span.specs.Peaks.{highest_site, highest_verdict}
 use Rattle.station_span.specs.Sites.{Site, site_in}

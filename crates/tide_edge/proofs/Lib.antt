@@ -1,5 +1,6 @@
 pub mod PlaceLemmas
 pub mod WritingLemmas
+pub mod SendLemmas
 pub mod ReplyLemmas
 pub mod ReadingLemmas
 pub mod PieceLemmas

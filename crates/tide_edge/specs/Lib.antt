@@ -6,6 +6,7 @@ pub mod Doors
 pub mod DoorLaws
 pub mod FileStates
 pub mod Memory
+pub mod Sending
 pub mod SinkStates
 pub mod StoreLaws
 pub mod Workings

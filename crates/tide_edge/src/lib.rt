@@ -4,8 +4,9 @@
 //! Each is a trait with two implementations. Of the one in memory, contracts know the contents; the
 //! one over the machine is tied by contracts to the bytes of the system below it. [`pass_file`]
 //! passes the bytes of a file to a [`Receiver`] while they are read, [`read_all`] returns the bytes
-//! of a whole file, and [`write_all`] writes all bytes of a slice. The three work with any
-//! implementation.
+//! of a whole file, and [`write_all`] writes all bytes of a slice. [`send`] writes the next piece of a
+//! longer text, and a [`LineBuffer`] collects lines of a text, so that several need only one write.
+//! All of these work with any implementation.
 #![tactic(auto)]
 
 mod clock;
@@ -31,4 +32,4 @@ pub use laws::{
     memory_sink_is_observable,
 };
 pub use rows::sample_states;
-pub use sink::{HostSink, MemorySink, Sink, WriteFailed, write_all};
+pub use sink::{HostSink, LineBuffer, MemorySink, Sink, WriteFailed, send, write_all};

@@ -4,13 +4,17 @@ ghost use Rattle.std.specs.Prelude.{◌≡◌, ◌<◌, ◌≤◌, length, IfOk}
 ghost use Rattle.tide_edge.specs.SinkStates.{SinkState, sink_after_write};
 
 mod in_memory;
+mod line_buffer;
 mod of_host;
+mod sending;
 mod write_through;
 mod writing;
 
 use crate::failed::Failed;
 pub use in_memory::MemorySink;
+pub use line_buffer::LineBuffer;
 pub use of_host::HostSink;
+pub use sending::send;
 pub use writing::{WriteFailed, write_all};
 
 /// A sink that accepts bytes, such as standard output.

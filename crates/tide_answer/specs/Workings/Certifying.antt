@@ -10,12 +10,12 @@ use Rattle.zone_time.specs.declared.zone.Zone.{Zone}
 use Rattle.station_span.specs.declared.span_request.SpanRequest.{SpanRequest}
 use Rattle.station_span.specs.declared.purpose.Purpose.TheVariants.{Events}
 use Rattle.tide_fault.specs.declared.refusal.Refusal.{Refusal}
-use Rattle.station_cells.specs.declared.rejection.Rejection.{Rejection}
+use Rattle.station_span.specs.declared.rejection.Rejection.{Rejection}
 use Rattle.tide_answer.specs.declared.text.Answer.{Answer}
 use Rattle.tide_answer.specs.Answers.{judged, version_of}
 use Rattle.tide_answer.specs.Asking.{request_by_certificate}
 use Rattle.station_span.specs.Following.{followed_by}
-use Rattle.station_cells.specs.Rejections.{rejection_of}
+use Rattle.station_span.specs.Rejections.{rejection_of}
 use Rattle.station_span.specs.Sites.{Site, site_in}
 
 -- the certificate of version 2 of the station called `name`, with the cells `tracks`

@@ -4,8 +4,8 @@ use Rattle.event_list.specs.Events.{Followed}
 use Rattle.rate_bound.specs.declared.version.Version.{Version}
 use Rattle.rate_bound.specs.CurveStates.{mark_state}
 use Rattle.rate_bound.specs.CurveSpecs.{predicted_turn}
-use Rattle.station_cells.specs.Rejections.{rejection_of}
-use Rattle.station_cells.proofs.RejectionLemmas.{rejection_same}
+use Rattle.station_span.specs.Rejections.{rejection_of}
+use Rattle.station_span.proofs.RejectionLemmas.{rejection_same}
 use Rattle.station_span.specs.declared.span_request.SpanRequest.{SpanRequest}
 use Rattle.station_span.specs.Following.{followed_by}
 use Rattle.station_span.specs.Workings.Curves.{followed_over}

@@ -1,4 +1,4 @@
-use Rattle.std.proofs.Common.{◌+◌, ◌*◌, ◌^◌, ◌++◌, length, subst, ap, ◌∙◌, Ok, Err, arith}
+use Rattle.std.proofs.Common.{◌+◌, ◌*◌, ◌^◌, ◌++◌, length, refl, subst, ap, ◌∙◌, Ok, Err, arith}
 use Rattle.std.proofs.lemmas.Result.{err_from_is_err_and}
 use Rattle.cert_text.specs.declared.track_name.TrackName.TheVariants.{Turn, Slack, Mark}
 use Rattle.cert_text.specs.Lines.{track_lines_of, lines_if_there, joined}
@@ -7,10 +7,11 @@ use Rattle.event_list.specs.Events.{cells_in}
 use Rattle.event_list.specs.Merging.{cells_left}
 use Rattle.station_span.specs.Following.{cells_of, tracks_of}
 use Rattle.station_span.specs.Workings.Finds.{site_of}
-use Rattle.station_cells.specs.Sending.{Sends, left_count}
-use Rattle.tide_answer.specs.Workings.Streaming.{tracks_text}
+use Rattle.station_span.specs.CellSending.{SendsCells, left_count}
+use Rattle.station_span.proofs.CellSendLemmas.{cells_then, sent_below}
 use Rattle.station_span.proofs.HeldLemmas.{cells_for, tracks_are}
-use Rattle.station_cells.proofs.SendLemmas.{sends_cut, ok_below, sends_sum, sends_then}
+use Rattle.tide_edge.proofs.SendLemmas.{sends_cut}
+use Rattle.tide_answer.specs.Workings.Streaming.{tracks_text}
 use Rattle.tide_answer.proofs.StreamLemmas.{all_counted, mark_small, searched, slack_small, turn_small}
 use Rattle.tide_answer.proofs.certificate_sending.send_tracks.Goals as goal
 
@@ -30,8 +31,7 @@ pub send_track-requires-clause-count : goal.send_track-requires-clause-count
 send_track-requires-clause-count g c =
     let turn = c.turn_search.ensures.remaining in
     let few = turn_small c.args.found_station.now c.requires.purpose in
-    let first = c.requires.first in
-    rw turn (omega (arith, few, first))
+    rw turn (omega (arith, few))
 
 pub send_if_followed-requires-clause-cells : goal.send_if_followed-requires-clause-cells
 send_if_followed-requires-clause-cells g c =
@@ -56,8 +56,7 @@ send_if_followed-requires-clause-count g c =
     let few = turn_small c.args.found_station.now c.requires.purpose in
     let more = slack_small c.args.found_station.now c.slack_search.result c.requires.purpose slack in
     let cells = (rw turn at c.in_ok-sent.ensures.sends).1 in
-    let first = c.requires.first in
-    omega (arith, few, more, cells, first)
+    omega (arith, few, more, cells)
 
 pub send_if_followed-requires-2-clause-cells : goal.send_if_followed-requires-2-clause-cells
 send_if_followed-requires-2-clause-cells g c =
@@ -88,8 +87,7 @@ send_if_followed-requires-2-clause-count g c =
     let most = mark_small c.args.found_station.now c.mark_search.result c.requires.purpose mark in
     let cells = (rw turn at c.in_ok-sent.ensures.sends).1 in
     let next = c.in_ok-sent-2.ensures.sends.1 in
-    let first = c.requires.first in
-    omega (arith, few, more, most, cells, next, first)
+    omega (arith, few, more, most, cells, next)
 
 pub returns-in_err-sent-clause-sends : goal.returns-in_err-sent-clause-sends
 returns-in_err-sent-clause-sends g c =
@@ -99,8 +97,8 @@ returns-in_err-sent-clause-sends g c =
     let t = joined (track_lines_of Turn tracks.turn) in
     let s = joined (lines_if_there Slack tracks.slack) in
     rw (p.1, p.2) (sends_cut (g.S.Sink.state c.args.out.now) (g.S.Sink.state c.send_track.new.out) c.args.sent (t ++ s)
-    (joined (lines_if_there Mark tracks.mark)) 0 0 _
-    (sends_cut (g.S.Sink.state c.args.out.now) (g.S.Sink.state c.send_track.new.out) c.args.sent t s 0 0 _
+    (joined (lines_if_there Mark tracks.mark)) _
+    (sends_cut (g.S.Sink.state c.args.out.now) (g.S.Sink.state c.send_track.new.out) c.args.sent t s _
     (rw turn at c.in_err-sent.ensures.sends)))
 
 pub returns-in_err-sent-2-clause-sends : goal.returns-in_err-sent-2-clause-sends
@@ -113,9 +111,9 @@ returns-in_err-sent-2-clause-sends g c =
     let s = joined (lines_if_there Slack tracks.slack) in
     let n = length tracks.turn in
     rw (p.1, p.2) (sends_cut (g.S.Sink.state c.args.out.now) (g.S.Sink.state c.send_if_followed.new.out) c.args.sent
-    (t ++ s) (joined (lines_if_there Mark tracks.mark)) 0 0 _
-    (sends_then (g.S.Sink.state c.args.out.now) (g.S.Sink.state c.send_track.new.out)
-    (g.S.Sink.state c.send_if_followed.new.out) c.args.sent c.in_ok-sent.sent t s n 0 (Err _)
+    (t ++ s) (joined (lines_if_there Mark tracks.mark)) _
+    (cells_then (g.S.Sink.state c.args.out.now) (g.S.Sink.state c.send_track.new.out) (g.S.Sink.state c.send_if_followed.new.out)
+    (record { bytes = c.args.sent; cells = 0 }) c.in_ok-sent.sent t s n 0 (n + 0) refl (Err _)
     (rw turn at c.in_ok-sent.ensures.sends) (rw slack at c.in_err-sent-2.ensures.sends)))
 
 pub returns-clause-sends : goal.returns-clause-sends
@@ -131,12 +129,14 @@ returns-clause-sends g c =
     let t = joined (track_lines_of Turn c.turn_search.result.remaining) in
     let s = joined (lines_if_there Slack (cells_left c.slack_search.result)) in
     let m = joined (lines_if_there Mark (cells_left c.mark_search.result)) in
-    let both = sends_then (g.S.Sink.state c.args.out.now) (g.S.Sink.state c.send_track.new.out) (g.S.Sink.state c.send_if_followed.new.out)
-    c.args.sent c.in_ok-sent.sent t s n k (Ok c.in_ok-sent-2.sent) c.in_ok-sent.ensures.sends c.in_ok-sent-2.ensures.sends in
-    subst (λ (x : Tracks). Sends (g.S.Sink.state c.args.out.now) (g.S.Sink.state c.send_if_followed-2.new.out) c.args.sent (tracks_text x)
+    let both = cells_then (g.S.Sink.state c.args.out.now) (g.S.Sink.state c.send_track.new.out) (g.S.Sink.state c.send_if_followed.new.out)
+    (record { bytes = c.args.sent; cells = 0 }) c.in_ok-sent.sent t s n k (n + k) refl (Ok c.in_ok-sent-2.sent)
+    c.in_ok-sent.ensures.sends c.in_ok-sent-2.ensures.sends in
+    subst (λ (x : Tracks). SendsCells (g.S.Sink.state c.args.out.now) (g.S.Sink.state c.send_if_followed-2.new.out)
+    (record { bytes = c.args.sent; cells = 0 }) (tracks_text x)
     (cells_of c.args.found_station.now.curve.book (site_of c.args.found_station.now) c.args.found_station.now.span_request) c.send_if_followed-2.result) same
-    (sends_sum (g.S.Sink.state c.args.out.now) (g.S.Sink.state c.send_if_followed.new.out) (g.S.Sink.state c.send_if_followed-2.new.out)
-    c.args.sent c.in_ok-sent-2.sent (t ++ s) m (n + k) (left_count c.mark_search.result) _ total c.send_if_followed-2.result
+    (cells_then (g.S.Sink.state c.args.out.now) (g.S.Sink.state c.send_if_followed.new.out) (g.S.Sink.state c.send_if_followed-2.new.out)
+    (record { bytes = c.args.sent; cells = 0 }) c.in_ok-sent-2.sent (t ++ s) m (n + k) (left_count c.mark_search.result) _ total c.send_if_followed-2.result
     both c.send_if_followed-2.ensures.sends)
 
 pub returns-clause-length_bound : goal.returns-clause-length_bound
@@ -150,5 +150,5 @@ returns-clause-length_bound g c =
     let short = rw turn at c.in_ok-sent.ensures.length_bound in
     let shorter = c.in_ok-sent-2.ensures.length_bound in
     let small = c.requires.small in
-    ok_below c.send_if_followed-2.result (c.in_ok-sent-2.sent.bytes + 24 + 24 * left_count c.mark_search.result)
+    sent_below c.send_if_followed-2.result (c.in_ok-sent-2.sent.bytes + 24 + 24 * left_count c.mark_search.result)
     (2 ^ 63) (omega (arith, few, more, most, short, shorter, small)) c.send_if_followed-2.ensures.length_bound

@@ -3,8 +3,8 @@ use Rattle.std.specs.List.{flat_map}
 use Rattle.std.proofs.lemmas.List.Elements.{All-head, All-tail}
 use Rattle.std.proofs.lemmas.Result.{err_from_is_err_and}
 use Rattle.event_text.specs.Lines.{IsListed, event_line_in}
-use Rattle.station_cells.specs.Sending.{gone_for, held_after}
-use Rattle.station_cells.proofs.SendLemmas.{buffer_done, buffer_length, buffer_step, sends_cut, sends_then, sends_none}
+use Rattle.tide_edge.specs.Sending.{gone_for, held_after}
+use Rattle.tide_edge.proofs.SendLemmas.{buffer_done, buffer_length, buffer_step, sends_cut, sends_then, sends_none}
 use Rattle.tide_answer.proofs.listing_sending.send_events.Goals as goal
 
 pub loop-event-init : goal.loop-event-init
@@ -52,7 +52,7 @@ loop-event-preserved g c =
         buffer_step (flat_map (event_line_in c.args.zone.now c.args.units)) c.loop-event.merge.remaining c.next.new.self.remaining
             c.in-Some.event _ text held piece now is (rw line refl) put so_far.sends.1,
         sends_then (g.S.Sink.state c.args.out.now) (g.S.Sink.state c.loop-event.out) (g.S.Sink.state c.put.new.out)
-            c.args.sent c.loop-event.so_far text (gone_for held piece) 0 0
+            c.args.sent c.loop-event.so_far text (gone_for held piece)
             (Ok c.in_ok-so_far.so_far) so_far.sends.2 c.in_ok-so_far.ensures.sends,
       );
       few = omega (arith, bytes, fits, few, long, count);
@@ -74,9 +74,9 @@ returns-in_err-so_far-clause-sends g c =
     buffer_step (flat_map (event_line_in c.args.zone.now c.args.units)) c.loop-event.merge.remaining c.next.new.self.remaining
     c.in-Some.event _ text held piece now c.in-Some.ensures.next (rw line refl) refl so_far.sends.1 in
     rw (p.1, p.2, ← whole) (sends_cut (g.S.Sink.state c.args.out.now) (g.S.Sink.state c.put.new.out) c.args.sent
-    (text ++ gone_for held piece) (now ++ rest) 0 0 _
+    (text ++ gone_for held piece) (now ++ rest) _
     (sends_then (g.S.Sink.state c.args.out.now) (g.S.Sink.state c.loop-event.out) (g.S.Sink.state c.put.new.out) c.args.sent
-    c.loop-event.so_far text (gone_for held piece) 0 0 (Err _) so_far.sends.2 c.in_err-so_far.ensures.sends))
+    c.loop-event.so_far text (gone_for held piece) (Err _) so_far.sends.2 c.in_err-so_far.ensures.sends))
 
 pub end-requires : goal.end-requires
 end-requires g c = let few = c.loop-event.invariant.few in omega (arith, few)
@@ -89,4 +89,4 @@ returns-clause-sends g c =
     let whole = buffer_done (flat_map (event_line_in c.args.zone.now c.args.units)) c.loop-event.merge.remaining _ text held
     c.in_default.ensures.next.0 refl so_far.sends.1 in
     rw (← whole) (sends_then (g.S.Sink.state c.args.out.now) (g.S.Sink.state c.loop-event.out) (g.S.Sink.state c.end.new.out)
-    c.args.sent c.loop-event.so_far text held 0 0 c.end.result so_far.sends.2 c.end.ensures)
+    c.args.sent c.loop-event.so_far text held c.end.result so_far.sends.2 c.end.ensures)

@@ -3,7 +3,7 @@ use Rattle.std.specs.List.{flat_map}
 use Rattle.std.proofs.lemmas.Result.{err_from_is_err_and}
 use Rattle.event_text.specs.Lines.{event_line_in}
 use Rattle.listing.specs.Listings.{plain_events_of}
-use Rattle.station_cells.proofs.SendLemmas.{sends_cut, sends_then}
+use Rattle.tide_edge.proofs.SendLemmas.{sends_cut, sends_then}
 use Rattle.tide_answer.proofs.listing_sending.send_listing.Goals as goal
 
 pub returns-in_err-sent-clause-sends : goal.returns-in_err-sent-clause-sends
@@ -11,8 +11,8 @@ unfolding plain_events_of
 returns-in_err-sent-clause-sends g c =
     let p = err_from_is_err_and c.from_residual.result c.from_residual.ensures.1 in
     rw (p.1, p.2) (sends_cut (g.S.Sink.state c.args.out.now) (g.S.Sink.state c.send_name.new.out)
-    (record { bytes = 0; cells = 0 }) (c.args.name.now ++ 10 ∷ [])
-    (flat_map (event_line_in c.args.zone.now c.args.units) c.args.merge.now.remaining) 0 0 _ c.in_err-sent.ensures)
+    0 (c.args.name.now ++ 10 ∷ [])
+    (flat_map (event_line_in c.args.zone.now c.args.units) c.args.merge.now.remaining) _ c.in_err-sent.ensures)
 
 pub send_events-requires-clause-count_bound : goal.send_events-requires-clause-count_bound
 send_events-requires-clause-count_bound g c =
@@ -26,6 +26,6 @@ pub returns-clause-sends : goal.returns-clause-sends
 unfolding plain_events_of
 returns-clause-sends g c =
     sends_then (g.S.Sink.state c.args.out.now) (g.S.Sink.state c.send_name.new.out) (g.S.Sink.state c.send_events.new.out)
-    (record { bytes = 0; cells = 0 }) c.in_ok-sent.sent (c.args.name.now ++ 10 ∷ [])
-    (flat_map (event_line_in c.args.zone.now c.args.units) c.args.merge.now.remaining) 0 0 c.send_events.result
+    0 c.in_ok-sent.sent (c.args.name.now ++ 10 ∷ [])
+    (flat_map (event_line_in c.args.zone.now c.args.units) c.args.merge.now.remaining) c.send_events.result
     c.in_ok-sent.ensures c.send_events.ensures.sends

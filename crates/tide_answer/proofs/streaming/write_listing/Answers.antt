@@ -1,7 +1,7 @@
 use Rattle.std.proofs.Common.{◌∙◌}
 use Rattle.std.proofs.lemmas.Result.{err_from_is_err_and}
 use Rattle.station_span.proofs.HeldLemmas.{event_lines}
-use Rattle.station_cells.proofs.SendLemmas.{from_first}
+use Rattle.tide_edge.proofs.SendLemmas.{from_first}
 use Rattle.tide_answer.proofs.StreamLemmas.{events_small}
 use Rattle.tide_answer.proofs.streaming.write_listing.Goals as goal
 
@@ -16,11 +16,11 @@ pub returns-in_err-send_listing : goal.returns-in_err-send_listing
 returns-in_err-send_listing g c =
     let p = err_from_is_err_and c.from_residual.result c.from_residual.ensures.1 in
     let whole = c.merge_of-merge.ensures.plain c.requires.plain in
-    rw (p.1, p.2) (from_first (g.S.Sink.state c.args.out.now) (g.S.Sink.state c.send_listing.new.out) _ 0 _
+    rw (p.1, p.2) (from_first (g.S.Sink.state c.args.out.now) (g.S.Sink.state c.send_listing.new.out) _ _
     (rw (whole, c.clock.ensures, c.args.found_station.now.unit) at c.in_err-send_listing.ensures.sends))
 
 pub returns : goal.returns
 returns g c =
     let whole = c.merge_of-merge.ensures.plain c.requires.plain in
     let sends = rw (whole, c.clock.ensures, c.args.found_station.now.unit) at c.in_ok-send_listing.ensures.sends in
-    (c.cells.ensures.value ∙ c.in_ok-send_listing.ensures.cells ∙ c.merge_of-merge.ensures.all, sends.2)
+    (c.cells.ensures.value ∙ c.in_ok-send_listing.ensures.cells ∙ c.merge_of-merge.ensures.all, sends.1)

@@ -1,3 +1,0 @@
-pub mod CellLemmas
-pub mod RejectionLemmas
-pub mod SendLemmas

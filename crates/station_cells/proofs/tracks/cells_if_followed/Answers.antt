@@ -1,4 +1,0 @@
-use Rattle.station_cells.proofs.tracks.cells_if_followed.Goals as goal
-
-pub cells_over-requires : goal.cells_over-requires
-cells_over-requires g c = c.requires c.in-Some.curve c.in-Some.is

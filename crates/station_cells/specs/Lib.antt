@@ -1,2 +1,0 @@
-pub mod Rejections
-pub mod Sending
