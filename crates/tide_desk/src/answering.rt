@@ -1,6 +1,6 @@
 //! The answer to a command line, or the first reason why there is none.
 
-ghost use Rattle.std.specs.Prelude.{◌≡◌, ◌×◌, ℤ, false, IsTrue, Option, None, IsOk, IfOk, IfErr, OnErr, if◌then◌else◌, map};
+ghost use Rattle.std.specs.Prelude.{◌≡◌, ℤ, false, IsTrue, Option, None, IsOk, IfOk, IfErr, OnErr, if◌then◌else◌, map};
 ghost use Rattle.decimal_text.specs.Expected.{EqualsUnlessNoMemory};
 ghost use Rattle.named_files.specs.RunFaults.{reading_failed, refused_over, faulty, is_out_of_memory};
 ghost use Rattle.named_files.specs.Opened.{AreShown, AreShownFor, IsResultOf, failing_file, names_to};
