@@ -1,4 +1,4 @@
-use Rattle.std.proofs.Common.{◌≡◌, ◌+◌, ◌*◌, suc, List, [], ◌++◌, length, map, Ok, Err, refl, ap, arith}
+use Rattle.std.proofs.Common.{◌≡◌, suc, List, [], ◌++◌, length, map, Ok, Err, refl, ap, arith}
 use Rattle.std.proofs.lemmas.List.Elements.{All-head, All-tail}
 use Rattle.std.proofs.lemmas.Result.{err_from_is_err_and}
 use Rattle.cert_text.specs.Certificates.{IsCell}
@@ -15,7 +15,7 @@ loop-found-init g c =
     record {
       sends = ([], rw empty refl, sends_none (g.S.Sink.state c.args.out.now) c.args.sent.bytes);
       few = omega (arith, none);
-      count = refl;
+      count = omega arith;
       cells = c.requires.cells;
     }
 
