@@ -3,7 +3,6 @@ use Rattle.std.proofs.Common.{◌≡◌, ℕ, ℤ, pos, ◌+ℤ◌, int_lt, Bool
 use Rattle.std.proofs.lemmas.Int.{ints}
 use Rattle.event_list.specs.Shifts.{HasOffsets}
 use Rattle.harmonics_book.specs.declared.book.Book.{Book}
-use Rattle.harmonics_book.specs.Books.{IsBook}
 use Rattle.station_table.specs.declared.basis.Basis.{Basis}
 use Rattle.station_table.specs.Bases.{IsBasis}
 use Rattle.year_blend.specs.Places.{AreYears, InDomain}
