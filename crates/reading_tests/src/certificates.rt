@@ -1,5 +1,6 @@
 //! Texts of certificates, and their lines.
 
+ghost use Rattle.std.specs.Prelude.{◌≡◌, []};
 ghost use Rattle.cert_text.specs.Certificates.{IsCertificate};
 
 use crate::asserts::assert_holds;
@@ -81,34 +82,46 @@ fn has_line(cell: &Cell) -> bool {
     }
 }
 
-#[test]
-fn first_and_last_lines_are_written(rt: HostRuntime) {
-    let mut out = ArrayString::new();
-    title_line(2, &mut out);
-    assert_holds(&rt, out.as_str() == "tide certificate 2\n", "title");
-    out.clear();
-    last_line(&mut out);
-    assert_holds(&rt, out.as_str() == "done\n", "last line");
+/// A line of a certificate that is no cell.
+enum Line {
+    Title,
+    Begin,
+    End,
+    Mark,
+    Track,
+    Last,
+}
+
+/// A line, and its text.
+static LINES: &[(Line, &str)] = &[
+    (Line::Title, "tide certificate 2\n"),
+    (Line::Begin, "begin 2000-01-10T00:00Z\n"),
+    (Line::End, "end 2000-01-10T00:08Z\n"),
+    (Line::Mark, "mark -500000\n"),
+    (Line::Track, "track slack\n"),
+    (Line::Last, "done\n"),
+];
+
+fn write_line(line: &Line, out: &mut ArrayString<24>)
+    requires { out.old.bytes ≡ [] }
+{
+    match line {
+        Line::Title => title_line(2, out),
+        Line::Begin => begin_line(15791040, out),
+        Line::End => end_line(15791048, out),
+        Line::Mark => mark_line(Some(-500_000), out),
+        Line::Track => heading_line(track_of(Kind::EbbBegins), out),
+        Line::Last => last_line(out),
+    }
 }
 
 #[test]
-fn lines_of_a_span_are_written(rt: HostRuntime) {
-    let mut out = ArrayString::new();
-    begin_line(15791040, &mut out);
-    assert_holds(&rt, out.as_str() == "begin 2000-01-10T00:00Z\n", "begin");
-    out.clear();
-    end_line(15791048, &mut out);
-    assert_holds(&rt, out.as_str() == "end 2000-01-10T00:08Z\n", "end");
-}
-
-#[test]
-fn lines_of_marks_and_tracks_are_written(rt: HostRuntime) {
-    let mut out = ArrayString::new();
-    mark_line(Some(-500_000), &mut out);
-    assert_holds(&rt, out.as_str() == "mark -500000\n", "mark");
-    out.clear();
-    heading_line(track_of(Kind::EbbBegins), &mut out);
-    assert_holds(&rt, out.as_str() == "track slack\n", "track");
+fn lines_are_written(rt: HostRuntime) {
+    for (line, text) in LINES {
+        let mut out = ArrayString::new();
+        write_line(line, &mut out);
+        assert_holds(&rt, out.as_str() == *text, *text);
+    }
 }
 
 #[test]

@@ -1,64 +1,53 @@
 use crate::asserts::assert_holds;
 use arrayvec::ArrayString;
 use decimal_text::*;
+use sample_tides::words_of;
 use std::alloc::{AllocError, Global};
 
-fn copied_text(alloc: Global) -> Result<Text, AllocError> {
-    Text::from_str(alloc, "Pier")?.copy()
+fn is_text_copied(alloc: Global) -> Result<bool, AllocError> {
+    Ok(Text::from_str(alloc, "Pier")?.copy()?.as_str() == "Pier")
 }
 
-fn copied_numbers(alloc: Global) -> Result<Numbers, AllocError> {
-    Numbers::from_vec(vec![in alloc; -1, 2]?).copy()
+fn are_numbers_copied(alloc: Global) -> Result<bool, AllocError> {
+    let numbers = Numbers::from_vec(vec![in alloc; -1, 2]?);
+    Ok(numbers.copy()?.as_slice() == [-1, 2].as_slice())
 }
 
-fn copied_bytes(alloc: Global) -> Result<Bytes, AllocError> {
-    Bytes::from_vec(vec![in alloc; 1, 2]?).copy()
+fn are_bytes_copied(alloc: Global) -> Result<bool, AllocError> {
+    let bytes = Bytes::from_vec(b"\x01\x02".to_vec(alloc)?);
+    Ok(bytes.copy()?.as_slice() == [1, 2].as_slice())
 }
 
-fn copied_words(alloc: Global) -> Result<Words, AllocError> {
-    let text = Text::from_str(alloc, "Pier")?;
-    Words::from_vec(vec![in alloc; text]?).copy()
+fn copied_words(alloc: Global) -> Result<usize, AllocError> {
+    Ok(words_of(alloc, "Pier")?.copy()?.as_slice().len())
 }
 
-#[test]
-fn copies_of_texts_are_equal(rt: HostRuntime) -> Result<(), AllocError> {
-    let text = copied_text(rt.alloc())?;
-    assert!(rt; text.as_str() == "Pier");
-    Ok(())
+fn is_empty_text(alloc: Global) -> bool {
+    Text::empty(alloc).as_str() == ""
 }
 
 #[test]
-fn an_empty_text_has_no_byte(rt: HostRuntime) {
-    assert!(rt; Text::empty(rt.alloc()).as_str() == "");
+fn copies_are_equal(rt: HostRuntime) {
+    assert!(rt; is_text_copied(rt.alloc()) == Ok(true));
+    assert!(rt; are_numbers_copied(rt.alloc()) == Ok(true));
+    assert!(rt; are_bytes_copied(rt.alloc()) == Ok(true));
+    assert!(rt; copied_words(rt.alloc()) == Ok(1));
+    assert!(rt; is_empty_text(rt.alloc()));
 }
 
-#[test]
-fn copies_of_numbers_are_equal(rt: HostRuntime) -> Result<(), AllocError> {
-    let numbers = copied_numbers(rt.alloc())?;
-    assert!(rt; numbers.as_slice() == [-1, 2].as_slice());
-    Ok(())
-}
-
-#[test]
-fn copies_of_bytes_are_equal(rt: HostRuntime) -> Result<(), AllocError> {
-    let bytes = copied_bytes(rt.alloc())?;
-    assert!(rt; bytes.as_slice() == [1, 2].as_slice());
-    Ok(())
-}
-
-#[test]
-fn copies_of_words_are_equal(rt: HostRuntime) -> Result<(), AllocError> {
-    let words = copied_words(rt.alloc())?;
-    assert!(rt; words.as_slice().len() == 1);
-    Ok(())
-}
+/// Bytes, and whether a name may have them.
+static NAMES: &[(&[u8], bool)] = &[
+    (b"Pier 1~\xc3\xa9", true),
+    (b"", true),
+    (b"Pier\x1f", false),
+    (b"Pier\x7f", false),
+];
 
 #[test]
 fn bytes_of_names_are_kept(rt: HostRuntime) {
-    assert_holds(&rt, are_name_bytes(b"Pier 1~\xc3\xa9"), "a name");
-    assert_holds(&rt, are_name_bytes(b""), "no byte");
-    assert_holds(&rt, !are_name_bytes(b"Pier\x1f"), "byte 31");
-    assert_holds(&rt, !are_name_bytes(b"Pier\x7f"), "byte 127");
+    for (row, (bytes, are_kept)) in NAMES.iter().enumerate() {
+        assert_holds(&rt, are_name_bytes(bytes) == *are_kept, row);
+    }
 }
 
 /// A text, the number of places, and the value or the fault.

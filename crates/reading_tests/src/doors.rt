@@ -50,14 +50,6 @@ fn requests(rt: &impl Abort, alloc: Global) -> Vec<Vec<Bytes>>
     requests
 }
 
-/// Returns the outcomes of three connections.
-fn echo_thrice<D: Door>(door: &mut D) -> [Result<bool, Failed>; 3]
-    requires listens { IsTrue (D.state door.old).listener_state.listens }
-    requires none_open { (D.state door.old).listener_state.is_open ≡ false }
-{
-    [echo(door), echo(door), echo(door)]
-}
-
 fn has_reply(door: &MemoryDoor, i: u64, text: &str) -> bool {
     door.reply(i).is_some_and(|reply| reply == text.as_bytes())
 }
@@ -98,17 +90,18 @@ fn is_served(
     first: &str,
 ) -> bool {
     let mut door = memory_door(rt, alloc, capacity, failing);
-    gives(&mut door, expected) && has_replies(&door, first)
+    serves(&mut door, expected, first)
 }
 
-/// Returns true if `door`, listening, has those outcomes.
-fn gives(door: &mut MemoryDoor, expected: &[Result<bool, Failed>; 3]) -> bool
+/// Returns true if `door`, listening, has those outcomes and replies.
+fn serves(door: &mut MemoryDoor, expected: &[Result<bool, Failed>; 3], first: &str) -> bool
     requires { (held_by door.old).listener_state ≡ not_listening }
 {
     if door.listen(80) != Ok(()) {
         return false;
     }
-    echo_thrice(door) == *expected
+    let (one, two, three) = (echo(door), echo(door), echo(door));
+    one == expected[0] && two == expected[1] && three == expected[2] && has_replies(door, first)
 }
 
 #[test]
@@ -119,17 +112,9 @@ fn a_door_in_memory_fails_as_required(rt: HostRuntime) {
     }
 }
 
-/// Returns a door without requests, at which the call with the number `failing` fails.
-fn shut_door(rt: &impl Abort, alloc: Global, failing: u64) -> MemoryDoor
-    ensures { (held_by result).listener_state ≡ not_listening }
-{
-    let fails = [failing].to_vec(alloc).expect(rt, "a schedule");
-    MemoryDoor::new(alloc, Vec::new(alloc), 0, fails).expect(rt, "a door")
-}
-
 #[test]
 fn a_shut_door_fails(rt: HostRuntime) {
-    let mut shut = shut_door(&rt, rt.alloc(), 1);
+    let mut shut = memory_door(&rt, rt.alloc(), 0, 1);
     assert!(rt; shut.listen(80) == Err(Failed));
 }
 

@@ -1,11 +1,12 @@
 //! Requests, and the faults of queries that aren't requests.
 
 use crate::asserts::assert_holds;
-use decimal_text::{Text, Words};
+use decimal_text::Words;
 use question::{
     AskFault, Command, Key, Origin, Pairs, Question, pairs_of_words, read_question, worked_faults,
     worked_query_faults, worked_questions, worked_values, worked_words,
 };
+use sample_tides::words_of;
 use std::alloc::Global;
 use std::process::Abort;
 
@@ -65,18 +66,9 @@ static QUERIES: &[(&str, Option<AskFault>)] = &[
     ("tides|x", Some(AskFault::UnknownCommand)),
 ];
 
-fn words_of(rt: &impl Abort, alloc: Global, line: &str) -> Words {
-    let mut words = Vec::new(alloc);
-    for word in line.split('|') {
-        let word = Text::from_str(alloc, word).expect(rt, "a word");
-        words.push(word).expect(rt, "words");
-    }
-    Words::from_vec(words)
-}
-
 /// Returns the arguments in `line`, as arguments of `origin`.
 fn pairs_of(rt: &impl Abort, alloc: Global, origin: Origin, line: &str) -> Pairs {
-    let words = words_of(rt, alloc, line);
+    let words = words_of(alloc, line).expect(rt, "words");
     let mut pairs = pairs_of_words(alloc, &words).expect(rt, "pairs");
     pairs.origin = origin;
     pairs

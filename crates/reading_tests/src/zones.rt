@@ -7,9 +7,9 @@ use arrayvec::ArrayString;
 use std::alloc::{AllocError, Global};
 use std::process::Abort;
 use zone_time::{
-    Label, Local, Zone, ZoneClock, ZoneFault, days_have_their_date, moments_have_one_text,
-    read_moment, read_zone, worked_clocks, worked_locals, worked_readings, worked_texts,
-    worked_zone_files, write_local, write_moment, zone_files_go_by_jiff,
+    Label, Local, Zone, ZoneFault, days_have_their_date, moments_have_one_text, read_moment,
+    read_zone, worked_clocks, worked_locals, worked_readings, worked_texts, worked_zone_files,
+    write_local, write_moment, zone_files_go_by_jiff,
 };
 
 /// A text, and its moment.
@@ -128,12 +128,18 @@ const CHANGES: &[u8] = b"\xff\xff\xff\xff^\x03\xf0\x90\0\0\0\06\xeb^p\0\0\0\08%\
 const TYPES: &[u8] =
     b"\xff\xff\xba\x9e\0\0\xff\xff\xc7\xc0\x01\x04\xff\xff\xb9\xb0\0\x08LMT\0EDT\0EST\0";
 
-fn new_york(alloc: Global, footer: &[u8]) -> Result<Vec<u8>, AllocError> {
+const FOOTER: &[u8] = b"\nEST5EDT,M3.2.0,M11.1.0\n";
+
+fn joined(alloc: Global, parts: &[&[u8]]) -> Result<Vec<u8>, AllocError> {
     let mut bytes = Vec::new(alloc);
-    for part in [OLD_BLOCK, HEAD, CHANGES, TYPES, footer] {
+    for part in parts {
         bytes.extend_from_slice(part)?;
     }
     Ok(bytes)
+}
+
+fn new_york(alloc: Global, footer: &[u8]) -> Result<Vec<u8>, AllocError> {
+    joined(alloc, &[OLD_BLOCK, HEAD, CHANGES, TYPES, footer])
 }
 
 /// A minute, and the minutes that New York is ahead of UTC.
@@ -150,32 +156,41 @@ static NEW_YORK: &[(i64, i32)] = &[
     (16223400, -300),
 ];
 
-/// Returns true if `clock` shows `minute` with the offset `utc_offset`.
-fn shows(clock: &ZoneClock<'_>, minute: i64, utc_offset: i32) -> bool {
+/// Returns true if `zone` and its clock show `minute` with the offset `utc_offset`.
+fn shows(zone: &Zone, minute: i64, utc_offset: i32) -> bool
+    requires { IsZone zone.now }
+{
     if minute < -1035069120 || minute > 3855733919 {
         return false;
     }
-    let local = clock.local(minute);
-    local.label == Label::Minutes(utc_offset) && local.minute == minute + i64::from(utc_offset)
+    let expected = minute + i64::from(utc_offset);
+    let (local, of_clock) = (zone.local(minute), zone.clock().local(minute));
+    (local.minute == expected)
+        & (local.label == Label::Minutes(utc_offset))
+        & (of_clock.minute == expected)
+        & (of_clock.label == Label::Minutes(utc_offset))
 }
 
-/// Checks that `clock` shows each minute of `times` with its offset.
-fn check_times(rt: &impl Abort, clock: &ZoneClock<'_>, times: &[(i64, i32)]) {
+/// Checks that `zone`, of a file, shows each minute of `times` with its offset.
+fn check_times(rt: &impl Abort, zone: &Zone, times: &[(i64, i32)])
+    requires { IsZone zone.now }
+{
     for (minute, utc_offset) in times {
-        assert_holds(rt, shows(clock, *minute, *utc_offset), *minute);
+        assert_holds(rt, shows(zone, *minute, *utc_offset), *minute);
     }
+    assert_holds(rt, matches!(zone.clock().zone(), Zone::File(_)), "a file");
 }
 
-fn check_new_york(rt: &impl Abort, clock: &ZoneClock<'_>) {
-    check_times(rt, clock, NEW_YORK);
-    assert_holds(rt, matches!(clock.zone(), Zone::File(_)), "a file");
+/// Checks that the zone file `bytes` shows each minute of `times` with its offset.
+fn check_file(rt: &impl Abort, alloc: Global, bytes: &[u8], times: &[(i64, i32)]) {
+    let zone = read_zone(alloc, bytes).expect(rt, "a zone");
+    check_times(rt, &zone, times);
 }
 
 #[test]
 fn zones_show_local_times(rt: HostRuntime) {
-    let bytes = new_york(rt.alloc(), b"\nEST5EDT,M3.2.0,M11.1.0\n").expect(&rt, "a file");
-    let zone = read_zone(rt.alloc(), bytes.as_slice()).expect(&rt, "a zone");
-    check_new_york(&rt, &zone.clock());
+    let bytes = new_york(rt.alloc(), FOOTER).expect(&rt, "a file");
+    check_file(&rt, rt.alloc(), bytes.as_slice(), NEW_YORK);
 }
 
 #[test]
@@ -191,12 +206,9 @@ fn other_zones_show_local_times(rt: HostRuntime) {
 const LONG_HEAD: &[u8] =
     b"TZif2\0\0\0\0\0\0\0\0\0\0\0\0\0\0\0\0\0\0\0\0\0\0\0\0\0\0\0\0\0\0\xec\0\0\0\x03\0\0\0\x0c";
 
-/// Returns a zone file with 236 changes, 182 and a half days from each to the next, the first in
-/// 1901.
-fn changed_often(alloc: Global) -> Result<Vec<u8>, AllocError> {
-    let mut bytes = Vec::new(alloc);
-    bytes.extend_from_slice(OLD_BLOCK)?;
-    bytes.extend_from_slice(LONG_HEAD)?;
+/// Appends 236 changes, 182 and a half days from each to the next, the first in 1901, and the type of
+/// local time that each begins.
+fn push_changes(bytes: &mut Vec<u8>) -> Result<(), AllocError> {
     for change in 0..236u8 {
         let second = i64::from(change) * 15_768_000 - 2_177_452_800;
         bytes.extend_from_slice(&second.to_be_bytes())?;
@@ -204,9 +216,14 @@ fn changed_often(alloc: Global) -> Result<Vec<u8>, AllocError> {
     for change in 0..236u32 {
         bytes.push(if change % 2 == 0 { 2 } else { 1 })?;
     }
-    bytes.extend_from_slice(TYPES)?;
-    bytes.extend_from_slice(b"\nEST5EDT,M3.2.0,M11.1.0\n")?;
-    Ok(bytes)
+    Ok(())
+}
+
+/// Returns a zone file with these changes.
+fn changed_often(rt: &impl Abort, alloc: Global) -> Vec<u8> {
+    let mut changes = Vec::new(alloc);
+    push_changes(&mut changes).expect(rt, "changes");
+    joined(alloc, &[OLD_BLOCK, LONG_HEAD, &changes, TYPES, FOOTER]).expect(rt, "a file")
 }
 
 /// A minute, and the minutes that the zone of many changes is ahead of UTC.
@@ -223,30 +240,10 @@ static MANY_CHANGES: &[(i64, i32)] = &[
     (25688520, -300),
 ];
 
-/// Returns true if `zone` shows `minute` with the offset `utc_offset`.
-fn zone_shows(zone: &Zone, minute: i64, utc_offset: i32) -> bool
-    requires { IsZone zone.now }
-{
-    if minute < -1035069120 || minute > 3855733919 {
-        return false;
-    }
-    let local = zone.local(minute);
-    local.label == Label::Minutes(utc_offset) && local.minute == minute + i64::from(utc_offset)
-}
-
-fn check_many_changes(rt: &impl Abort, zone: &Zone)
-    requires { IsZone zone.now }
-{
-    for (minute, utc_offset) in MANY_CHANGES {
-        assert_holds(rt, zone_shows(zone, *minute, *utc_offset), *minute);
-    }
-}
-
 #[test]
 fn zones_of_many_changes_show_local_times(rt: HostRuntime) {
-    let bytes = changed_often(rt.alloc()).expect(&rt, "a file");
-    let zone = read_zone(rt.alloc(), bytes.as_slice()).expect(&rt, "a zone");
-    check_many_changes(&rt, &zone);
+    let bytes = changed_often(&rt, rt.alloc());
+    check_file(&rt, rt.alloc(), bytes.as_slice(), MANY_CHANGES);
 }
 
 const BAD_FOOTERS: &[&str] = &[
