@@ -1,28 +1,17 @@
 //! The verdicts on cells.
 
-ghost use Rattle.std.specs.Prelude.{◌≡◌, ◌≤ℤ◌, IsTrue};
-
 use crate::asserts::assert_holds;
-use crate::evaluating::is_few;
+use crate::evaluating::{can_begin, is_few};
 use cert_checker::check_track;
 use curve_law::samples::{Line, Ripple};
 use curve_law::{Cell, Cells, Curve, Kind, Verdict};
 use std::alloc::Global;
 use std::process::Abort;
 
-/// Returns true if cells from minute `begin` up to `end`, not included, may be checked on `curve`, which
-/// was not evaluated yet.
-fn can_check<C: Curve>(curve: &C, begin: i64, end: i64) -> bool
-    ensures { IsTrue result → (begin ≤ℤ end) × ((C.state curve.now).curve_model.curve_spec.first ≤ℤ begin)
-        × (end ≤ℤ (C.state curve.now).curve_model.curve_spec.last) × ((C.state curve.now).count ≡ 0) }
-{
-    begin <= end && curve.first() <= begin && end <= curve.last() && curve.evaluations() == 0
-}
-
 /// Returns the verdict on `cells` from minute `begin` up to `end`, not included, or `None` if they may
 /// not be checked.
 fn verdict<C: Curve>(curve: &mut C, begin: i64, end: i64, cells: &Cells) -> Option<Verdict> {
-    if can_check(curve, begin, end) && cells.as_slice().len() <= 1000 {
+    if can_begin(curve, begin, end) && cells.as_slice().len() <= 1000 {
         Some(check_track(curve, cells, begin, end))
     } else {
         None

@@ -1,7 +1,7 @@
 //! The laws of cells and curves, and small curves.
 
 use crate::asserts::assert_holds;
-use crate::evaluating::value_at;
+use crate::evaluating::{has_kinds, value_at};
 use curve_law::samples::{Line, Ripple};
 use curve_law::*;
 use std::alloc::Global;
@@ -43,10 +43,6 @@ fn sum<C: Curve>(curve: &mut C, begin: i64, end: i64) -> Option<i128> {
 /// Returns true if the sum is the expected one.
 fn has_sum<C: Curve>(curve: &mut C, begin: i64, end: i64, wanted: i128) -> bool {
     sum(curve, begin, end) == Some(wanted)
-}
-
-fn has_kinds<C: Curve>(curve: &C, rising: Kind, falling: Kind) -> bool {
-    curve.rising() == rising && curve.falling() == falling
 }
 
 #[test]

@@ -1,9 +1,9 @@
 //! Evaluations of curves that first check the minute and the number of evaluations.
 
-ghost use Rattle.std.specs.Prelude.{◌<◌, ◌^◌, IsTrue};
+ghost use Rattle.std.specs.Prelude.{◌≡◌, ◌<◌, ◌^◌, ◌≤ℤ◌, IsTrue};
 ghost use Rattle.curve_law.specs.CurveSpec.{IsMinute};
 
-use curve_law::Curve;
+use curve_law::{Curve, Kind};
 
 /// Returns true if minute `m` is one of the curve's minutes, at which it has a value.
 fn has_minute<C: Curve>(curve: &C, m: i64) -> bool
@@ -37,6 +37,22 @@ pub fn note_at<C: Curve>(curve: &C, m: i64) -> Option<i64> {
     } else {
         None
     }
+}
+
+/// Returns true if cells from minute `begin` up to `end`, not included, may be found or checked on
+/// `curve`, which was not evaluated yet.
+pub fn can_begin<C: Curve>(curve: &C, begin: i64, end: i64) -> bool
+    ensures forward { IsTrue result → begin ≤ℤ end }
+    ensures first { IsTrue result → (C.state curve.now).curve_model.curve_spec.first ≤ℤ begin }
+    ensures last { IsTrue result → end ≤ℤ (C.state curve.now).curve_model.curve_spec.last }
+    ensures count { IsTrue result → (C.state curve.now).count ≡ 0 }
+{
+    begin <= end && curve.first() <= begin && end <= curve.last() && curve.evaluations() == 0
+}
+
+/// Returns true if the kinds of the events at which the value rises and falls past 0 are these.
+pub fn has_kinds<C: Curve>(curve: &C, rising: Kind, falling: Kind) -> bool {
+    curve.rising() == rising && curve.falling() == falling
 }
 
 /// Returns true if `evaluations`, the number of evaluations of a curve, is at most the number of

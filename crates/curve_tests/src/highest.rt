@@ -1,6 +1,6 @@
 //! The highest water of a span: found, covered and checked.
 
-ghost use Rattle.std.specs.Prelude.{◌+◌, ◌^◌, ◌<◌, ◌≤◌, ◌≤ℤ◌, ◌<ℤ◌, ◌-ℤ◌, pos, unsigned_abs, length, IsTrue};
+ghost use Rattle.std.specs.Prelude.{◌+◌, ◌^◌, ◌<◌, ◌≤◌, ◌≤ℤ◌, ◌<ℤ◌, ◌-ℤ◌, pos, unsigned_abs, length, IfSome, IsTrue};
 ghost use Rattle.highest_water.specs.Peaks.{IsHighest};
 
 use crate::asserts::assert_holds;
@@ -42,15 +42,19 @@ fn is_asked_little<C: Curve>(curve: &C) -> bool
 /// Returns true if the highest water from `begin` up to `end`, not included, may be searched: the curve
 /// has these minutes, which are 1 to 5,270,400 in number, and was evaluated at most 1,000,000 times.
 fn can_find<C: Curve>(curve: &C, begin: i64, end: i64) -> bool
-    ensures { IsTrue result → (begin <ℤ end) × ((C.state curve.now).curve_model.curve_spec.first ≤ℤ begin)
-        × (end ≤ℤ (C.state curve.now).curve_model.curve_spec.last) × ((end -ℤ begin) ≤ℤ pos 5270400)
-        × ((C.state curve.now).count ≤ 10 ^ 6) }
+    ensures some { IsTrue result → begin <ℤ end }
+    ensures first { IsTrue result → (C.state curve.now).curve_model.curve_spec.first ≤ℤ begin }
+    ensures last { IsTrue result → end ≤ℤ (C.state curve.now).curve_model.curve_spec.last }
+    ensures length_bound { IsTrue result → (end -ℤ begin) ≤ℤ pos 5270400 }
+    ensures count { IsTrue result → (C.state curve.now).count ≤ 10 ^ 6 }
 {
     covers_span(curve, begin, end) && is_short(begin, end) && is_asked_little(curve)
 }
 
 /// Returns the highest water that a search finds, or `None` if there is none.
-fn found<C: Curve>(alloc: Global, curve: &mut C, begin: i64, end: i64) -> Option<Peak> {
+fn found<C: Curve>(alloc: Global, curve: &mut C, begin: i64, end: i64) -> Option<Peak>
+    ensures { IfSome result (λ peak. IsHighest (C.state curve.new).curve_model.curve_spec begin end peak.at peak.value) }
+{
     if can_find(curve, begin, end) {
         find_peak(alloc, curve, begin, end).ok()
     } else {
@@ -198,12 +202,9 @@ fn covers<C: Curve + Drop>(
     wanted: &[PeakCell],
 ) -> bool {
     let mut curve = curve;
-    if !can_find(&curve, begin, end) {
-        return false;
-    }
-    match find_peak(alloc, &mut curve, begin, end) {
-        Ok(peak) => has_cover(alloc, &mut curve, begin, end, &peak, wanted),
-        Err(_) => false,
+    match found(alloc, &mut curve, begin, end) {
+        Some(peak) => has_cover(alloc, &mut curve, begin, end, &peak, wanted),
+        None => false,
     }
 }
 

@@ -1,11 +1,11 @@
 //! Rates of slopes and of levels.
 
 use crate::asserts::assert_holds;
-use crate::evaluating::{note_at, value_at};
+use crate::evaluating::{has_kinds, note_at, value_at};
 use crate::stations::pier;
 use curve_law::{Curve, Kind};
 use rate_bound::*;
-use station_curve::{CurveFault, StationCurve};
+use station_curve::StationCurve;
 use std::process::Abort;
 use year_blend::LONGEST_SPAN;
 
@@ -22,31 +22,14 @@ fn cell_rate<C: Curve>(curve: &C, a: i64, n: u32) -> Option<Option<i128>> {
     Some(curve.rate(a, n))
 }
 
-/// Returns the rate of the cell of `n` minutes from minute `a` on, the values at both ends and the level
-/// at its beginning.
-fn stated<C: Curve>(curve: &mut C, a: i64, n: u32) -> Option<Stated> {
-    let rate = cell_rate(curve, a, n)?;
-    let begin = value_at(curve, a)?;
-    let end = value_at(curve, a.checked_add(i64::from(n))?)?;
-    Some((rate, begin, end, note_at(curve, a)?))
-}
-
 /// Returns true if the cell of `n` minutes from minute `a` on has the rate, the values and the level
 /// `want`.
 fn states<C: Curve>(curve: &mut C, a: i64, n: u32, want: Stated) -> bool {
-    match stated(curve, a, n) {
-        Some(found) => found == want,
-        None => false,
-    }
-}
-
-/// Returns the rate of the cell of `n` minutes from minute `a` on, if it has values and a level.
-fn rate_of<C: Curve>(curve: &mut C, a: i64, n: u32) -> Option<i128> {
-    stated(curve, a, n)?.0
-}
-
-fn has_kinds<C: Curve>(curve: &C, rising: Kind, falling: Kind) -> bool {
-    curve.rising() == rising && curve.falling() == falling
+    let (rate, begin, end, level) = want;
+    cell_rate(curve, a, n) == Some(rate)
+        && value_at(curve, a) == Some(begin)
+        && value_at(curve, a.saturating_add(i64::from(n))) == Some(end)
+        && note_at(curve, a) == Some(level)
 }
 
 const SLOPE_RATE: Option<i128> = Some(10_857_785_564_160_000_000_000_000_000_000);
@@ -59,55 +42,54 @@ const LATER: i128 = 584_097_739_822_080_000_000_000_000_000_000;
 
 const DAY: i128 = -86_788_214_691_840_000_000_000_000_000_000;
 
-/// A cell: its first minute, its minutes, its rate outside new years and everywhere, its values and its
-/// level.
-const SLOPES: &[(i64, u32, Option<i128>, Option<i128>, i128, i128, i64)] = &[
-    (15_791_040, 8, SLOPE_RATE, SLOPE_RATE, 0, DAY, 1_000_000),
-    (
-        15_778_020,
-        4,
-        None,
-        SLOPE_RATE_ACROSS,
-        STEEP,
-        LATER,
-        866_025,
-    ),
+const PLAIN: Stated = (SLOPE_RATE, 0, DAY, 1_000_000);
+
+const EVE: Stated = (None, STEEP, LATER, 866_025);
+
+const EVE_ACROSS: Stated = (SLOPE_RATE_ACROSS, STEEP, LATER, 866_025);
+
+/// A cell: its first minute, its minutes, and what is stated of it outside new years and everywhere.
+const SLOPES: &[(i64, u32, Stated, Stated)] = &[
+    (15_791_040, 8, PLAIN, PLAIN),
+    (15_778_020, 4, EVE, EVE_ACROSS),
 ];
 
 fn check_slopes<C: Curve>(rt: &impl Abort, plain_parts: &mut C, all_parts: &mut C) {
-    for &(a, n, first, second, begin, end, level) in SLOPES {
-        let is_right = states(plain_parts, a, n, (first, begin, end, level));
-        assert_holds(rt, is_right, a);
-        let is_right = states(all_parts, a, n, (second, begin, end, level));
-        assert_holds(rt, is_right, a);
+    for &(a, n, outside, everywhere) in SLOPES {
+        assert_holds(rt, states(plain_parts, a, n, outside), a);
+        assert_holds(rt, states(all_parts, a, n, everywhere), a);
     }
-    assert_holds(rt, stated(plain_parts, 16_830_719, 2).is_none(), "beyond");
+    let beyond = cell_rate(plain_parts, 16_830_719, 2);
+    assert_holds(rt, beyond.is_none(), "beyond");
     assert_holds(rt, plain_parts.evaluations() == 4, "evaluations");
     assert_holds(rt, has_kinds(plain_parts, Kind::Low, Kind::High), "kinds");
 }
 
-#[test]
-fn slopes_and_their_rates(rt: HostRuntime) -> Result<(), CurveFault> {
-    let station = pier(rt.alloc(), "0", "1")?;
-    check_slopes(
-        &rt,
-        &mut TurnCurve::over(&station),
-        &mut TurnCurve::blended(&station),
-    );
-    Ok(())
-}
-
 const HIGH: i128 = 4_147_200_000_000_000_000_000_000_000_000;
 
-const LEVEL_RATE: i128 = 36_192_618_547_200_000_000_000;
+/// The rate of the level in a cell of a quarter or a third of the period, in which the curve has no new
+/// year, and in the eve's, each in the unit of its curve.
+const QUARTER: Stated = (
+    Some(36_192_618_547_200_000_000_000_000_000),
+    HIGH,
+    0,
+    1_000_000,
+);
 
-const LEVEL_RATE_ACROSS: i128 = 165_792_618_547_200_000_000_000;
+const THIRD: Stated = (
+    Some(72_385_237_094_400_000_000_000_000_000),
+    HIGH,
+    0,
+    1_000_000,
+);
+
+const MARK_RATE_ACROSS: i128 = 331_585_237_094_400_000_000_000_000_000;
 
 fn check_levels(rt: &impl Abort, station: &StationCurve) {
     let mut slack = MarkCurve::over(station, 1_000_000, 0, 0, true);
-    let quarter = (Some(1_000_000 * LEVEL_RATE), HIGH, 0, 1_000_000);
-    assert_holds(rt, states(&mut slack, 15_791_040, 180, quarter), "quarter");
-    assert_holds(rt, rate_of(&mut slack, 15_778_020, 4).is_none(), "eve");
+    assert_holds(rt, states(&mut slack, 15_791_040, 180, QUARTER), "quarter");
+    let eve = cell_rate(&slack, 15_778_020, 4);
+    assert_holds(rt, eve == Some(None), "eve");
     assert_holds(
         rt,
         has_kinds(&slack, Kind::FloodBegins, Kind::EbbBegins),
@@ -115,20 +97,12 @@ fn check_levels(rt: &impl Abort, station: &StationCurve) {
     );
 }
 
-#[test]
-fn levels_and_their_rates(rt: HostRuntime) -> Result<(), CurveFault> {
-    let station = pier(rt.alloc(), "0", "1")?;
-    check_levels(&rt, &station);
-    Ok(())
-}
-
 fn check_marks(rt: &impl Abort, station: &StationCurve) {
     let version = Version::Second;
     let mut mark = MarkCurve::new(station, version, 2_000_000, 500_000, 1_500_000, false);
-    let third = (Some(2_000_000 * LEVEL_RATE), HIGH, 0, 1_000_000);
-    assert_holds(rt, states(&mut mark, 15_791_040, 120, third), "third");
-    let eve = rate_of(&mut mark, 15_778_020, 4);
-    assert_holds(rt, eve == Some(2_000_000 * LEVEL_RATE_ACROSS), "eve");
+    assert_holds(rt, states(&mut mark, 15_791_040, 120, THIRD), "third");
+    let eve = cell_rate(&mark, 15_778_020, 4);
+    assert_holds(rt, eve == Some(Some(MARK_RATE_ACROSS)), "eve");
     assert_holds(
         rt,
         has_kinds(&mark, Kind::MarkRising, Kind::MarkFalling),
@@ -137,10 +111,13 @@ fn check_marks(rt: &impl Abort, station: &StationCurve) {
 }
 
 #[test]
-fn marks_and_their_rates(rt: HostRuntime) -> Result<(), CurveFault> {
-    let station = pier(rt.alloc(), "0", "1")?;
+fn slopes_levels_and_marks_have_their_rates(rt: HostRuntime) {
+    let station = pier(rt.alloc(), "0", "1").expect(&rt, "a station");
+    let mut plain_parts = TurnCurve::over(&station);
+    let mut all_parts = TurnCurve::blended(&station);
+    check_slopes(&rt, &mut plain_parts, &mut all_parts);
+    check_levels(&rt, &station);
     check_marks(&rt, &station);
-    Ok(())
 }
 
 #[test]

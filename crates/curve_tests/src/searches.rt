@@ -1,21 +1,19 @@
 //! The cells of spans, found at once and in steps.
 
-ghost use Rattle.std.specs.Prelude.{◌≡◌, ◌≤ℤ◌, IsTrue};
-
 use crate::asserts::assert_holds;
-use crate::evaluating::is_few;
+use crate::evaluating::{can_begin, is_few};
 use curve_law::samples::{Line, Ripple};
-use curve_law::{Cell, Curve, Kind};
+use curve_law::{Cell, Cells, Curve, Kind};
 use interval_search::{Found, Search, search};
 use std::alloc::Global;
 
-/// Returns true if a search from minute `begin` up to `end`, not included, may begin on `curve`, which
-/// was not evaluated yet.
-fn can_search<C: Curve>(curve: &C, begin: i64, end: i64) -> bool
-    ensures { IsTrue result → (begin ≤ℤ end) × ((C.state curve.now).curve_model.curve_spec.first ≤ℤ begin)
-        × (end ≤ℤ (C.state curve.now).curve_model.curve_spec.last) × ((C.state curve.now).count ≡ 0) }
-{
-    begin <= end && curve.first() <= begin && end <= curve.last() && curve.evaluations() == 0
+/// Returns the cells that a search finds, or `None` if there are none.
+fn found<C: Curve>(alloc: Global, curve: &mut C, begin: i64, end: i64) -> Option<Cells> {
+    if can_begin(curve, begin, end) {
+        search(alloc, curve, begin, end).ok()
+    } else {
+        None
+    }
 }
 
 /// Returns true if the search returns the cells `wanted`, and evaluates at most once per cell, plus
@@ -28,21 +26,18 @@ fn has_cells<C: Curve + Drop>(
     wanted: &[Cell],
 ) -> bool {
     let mut curve = curve;
-    if !can_search(&curve, begin, end) {
-        return false;
-    }
-    match search(alloc, &mut curve, begin, end) {
-        Ok(cells) => cells.as_slice() == wanted && is_few(curve.evaluations(), wanted.len()),
-        Err(_) => false,
+    match found(alloc, &mut curve, begin, end) {
+        Some(cells) => cells.as_slice() == wanted && is_few(curve.evaluations(), wanted.len()),
+        None => false,
     }
 }
 
 /// Returns true if a search in steps returns `wanted`, and nothing after that.
 fn has_steps<C: Curve + Drop>(curve: C, begin: i64, end: i64, wanted: &[Found]) -> bool {
-    if !can_search(&curve, begin, end) {
-        return false;
-    }
-    let mut search = Search::new(curve, begin, end);
+    can_begin(&curve, begin, end) && gives(&mut Search::new(curve, begin, end), wanted)
+}
+
+fn gives<C: Curve>(search: &mut Search<C>, wanted: &[Found]) -> bool {
     for found in wanted {
         if search.next() != Some(*found) {
             return false;

@@ -107,8 +107,12 @@ fn a_year_has_its_events(rt: HostRuntime) {
 /// is valid there.
 fn one_by_one<C: Curve + Drop>(rt: &impl Abort, alloc: Global, curve: C) -> (Vec<Event>, u64) {
     assert!(rt; has_year(&curve));
-    let mut merge: Merge<C, C> = Merge::new(Search::new(curve, BEGIN, END), None, None);
-    let events = taken(alloc, &mut merge).expect(rt, "events");
+    let mut merge = Merge::new(Search::new(curve, BEGIN, END), None, None);
+    counted(rt, alloc, &mut merge)
+}
+
+fn counted<C: Curve>(rt: &impl Abort, alloc: Global, merge: &mut Merge<C, C>) -> (Vec<Event>, u64) {
+    let events = taken(alloc, merge).expect(rt, "events");
     (events, merge.cells())
 }
 

@@ -21,26 +21,46 @@ fn pier_file(
     amplitude: &str,
     unit: &str,
 ) -> Result<String, AllocError> {
-    format!(in alloc;
-        "1\nS2 {speed}\n1999\n3\nS2\n0 {argument} {argument}\n*END*\n3\nS2\n1 1 1\n*END*\nPier\n0:00 :UTC\n0 {unit}\nS2 {amplitude} 0\n"
-    )
+    [
+        "1\nS2 ",
+        speed,
+        "\n1999\n3\nS2\n0 ",
+        argument,
+        " ",
+        argument,
+        "\n*END*\n3\nS2\n1 1 1\n*END*\nPier\n0:00 :UTC\n0 ",
+        unit,
+        "\nS2 ",
+        amplitude,
+        " 0\n",
+    ]
+    .concat(alloc)
 }
 
-/// Returns the book of a small file with one station.
+/// Returns the book of a small file.
 fn small_book(alloc: Global, file: &[u8]) -> Option<Book>
-    ensures book { IfSome result IsBook }
-    ensures one { IfSome result (λ book. length book.stations ≡ 1) }
+    ensures { IfSome result IsBook }
 {
-    if file.len() > 1000 {
-        return None;
-    }
-    let Ok(book) = read_book(alloc, file) else {
-        return None;
-    };
-    if book.stations.as_slice().len() == 1 {
-        Some(book)
+    if file.len() <= 1000 {
+        read_book(alloc, file).ok()
     } else {
         None
+    }
+}
+
+fn has_one_station(book: &Book) -> bool
+    ensures { IsTrue result → length book.now.stations ≡ 1 }
+{
+    book.stations.as_slice().len() == 1
+}
+
+fn only_curve(alloc: Global, book: &Book) -> Result<StationCurve, CurveFault>
+    requires { IsBook book.now }
+{
+    if has_one_station(book) {
+        StationCurve::new(alloc, book, 0)
+    } else {
+        Err(CurveFault::NoMemory)
     }
 }
 
@@ -51,7 +71,7 @@ fn small_book(alloc: Global, file: &[u8]) -> Option<Book>
 /// read or doesn't have exactly one station.
 pub fn curve_of(alloc: Global, file: &[u8]) -> Result<StationCurve, CurveFault> {
     match small_book(alloc, file) {
-        Some(book) => StationCurve::new(alloc, &book, 0),
+        Some(book) => only_curve(alloc, &book),
         None => Err(CurveFault::NoMemory),
     }
 }
@@ -63,22 +83,43 @@ fn is_in_file(m: i64) -> bool
     year_start(1999) <= m && m <= year_start(2002)
 }
 
+/// Returns true if the book has one station, and the years 1999 to 2001.
+fn is_of_pier(book: &Book) -> bool
+    ensures station { IsTrue result → length book.now.stations ≡ 1 }
+    ensures first_year { IsTrue result → book.now.first_year ≡ pos 1999 }
+    ensures years { IsTrue result → book.now.years ≡ 3 }
+{
+    has_one_station(book) && book.first_year == 1999 && book.years == 3
+}
+
 /// Returns the curve of the one station of a book of the years 1999 to 2001, for the minutes from
 /// `first` to `last`, both included.
 fn minutes_of(alloc: Global, book: &Book, first: i64, last: i64) -> Result<StationCurve, CurveFault>
     requires book { IsBook book.now }
     requires one { length book.now.stations ≡ 1 }
+    requires first_year { book.now.first_year ≡ pos 1999 }
+    requires years { book.now.years ≡ 3 }
 {
-    if book.first_year != 1999 || book.years != 3 {
-        return Err(CurveFault::NoMemory);
+    if is_in_file(first) && is_in_file(last) && first <= last {
+        StationCurve::over(alloc, book, 0, first, last)
+    } else {
+        Err(CurveFault::NoMemory)
     }
-    if !is_in_file(first) || !is_in_file(last) {
-        return Err(CurveFault::NoMemory);
+}
+
+fn pier_minutes(
+    alloc: Global,
+    book: &Book,
+    first: i64,
+    last: i64,
+) -> Result<StationCurve, CurveFault>
+    requires { IsBook book.now }
+{
+    if is_of_pier(book) {
+        minutes_of(alloc, book, first, last)
+    } else {
+        Err(CurveFault::NoMemory)
     }
-    if last < first {
-        return Err(CurveFault::NoMemory);
-    }
-    StationCurve::over(alloc, book, 0, first, last)
 }
 
 /// Returns the curve of the one station of a file for the minutes from `first` to `last`, both included.
@@ -89,7 +130,7 @@ fn curve_over(
     last: i64,
 ) -> Result<StationCurve, CurveFault> {
     match small_book(alloc, file) {
-        Some(book) => minutes_of(alloc, &book, first, last),
+        Some(book) => pier_minutes(alloc, &book, first, last),
         None => Err(CurveFault::NoMemory),
     }
 }
@@ -144,13 +185,6 @@ fn check_levels(rt: &impl Abort, curve: &StationCurve) {
     assert_holds(rt, has_three_years(curve), "years");
 }
 
-#[test]
-fn levels_round_a_new_year(rt: HostRuntime) -> Result<(), CurveFault> {
-    let curve = pier(rt.alloc(), "60", "1")?;
-    check_levels(&rt, &curve);
-    Ok(())
-}
-
 fn is_level_near(curve: &StationCurve, m: i64, level: i128) -> bool {
     is_in_years(curve, m) && curve.approximate_level(m) == level
 }
@@ -189,13 +223,6 @@ fn check_approximate_levels(rt: &impl Abort, curve: &StationCurve) {
     assert_holds(rt, has_errors(curve), "errors");
 }
 
-#[test]
-fn approximate_levels(rt: HostRuntime) -> Result<(), CurveFault> {
-    let curve = pier(rt.alloc(), "60", "1")?;
-    check_approximate_levels(&rt, &curve);
-    Ok(())
-}
-
 /// Returns true if the `n` minutes from `m` on are in this part of the years.
 fn is_stretch(curve: &StationCurve, m: i64, n: u32, want: Stretch) -> bool {
     let Some(end) = m.checked_add(i64::from(n)) else {
@@ -226,10 +253,11 @@ fn check_stretches(rt: &impl Abort, curve: &StationCurve) {
 }
 
 #[test]
-fn stretches_round_new_years(rt: HostRuntime) -> Result<(), CurveFault> {
-    let curve = pier(rt.alloc(), "60", "1")?;
+fn levels_and_stretches_round_new_years(rt: HostRuntime) {
+    let curve = pier(rt.alloc(), "60", "1").expect(&rt, "a curve");
+    check_levels(&rt, &curve);
+    check_approximate_levels(&rt, &curve);
     check_stretches(&rt, &curve);
-    Ok(())
 }
 
 const SUMS: Sums = Sums {
@@ -252,10 +280,9 @@ fn check_sums(rt: &impl Abort, curve: &StationCurve) {
 }
 
 #[test]
-fn sums_of_years(rt: HostRuntime) -> Result<(), CurveFault> {
-    let curve = pier(rt.alloc(), "60", "-1")?;
+fn sums_of_years(rt: HostRuntime) {
+    let curve = pier(rt.alloc(), "60", "-1").expect(&rt, "a curve");
     check_sums(&rt, &curve);
-    Ok(())
 }
 
 #[test]
@@ -307,10 +334,9 @@ fn check_waves(rt: &impl Abort, alloc: Global, file: &[u8]) {
 }
 
 #[test]
-fn minutes_are_placed_by_their_years(rt: HostRuntime) -> Result<(), AllocError> {
-    let file = pier_file(rt.alloc(), "30", "60", "1", "feet")?;
+fn minutes_are_placed_by_their_years(rt: HostRuntime) {
+    let file = pier_file(rt.alloc(), "30", "60", "1", "feet").expect(&rt, "a file");
     check_waves(&rt, rt.alloc(), file.as_bytes());
-    Ok(())
 }
 
 const STEEP: Option<CurveFault> = Some(CurveFault::TooSteep { year: 1999 });
