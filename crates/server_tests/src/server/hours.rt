@@ -6,7 +6,6 @@ use super::coming::Coming;
 use super::serving::{ASKED, NONE, Outcome, assert_done, serve_by, serve_over};
 use crate::asserts::{assert_count, assert_holds};
 use ghost_log::Log;
-use std::alloc::Global;
 use std::process::Abort;
 use tide_edge::{Clock, Failed};
 
@@ -45,15 +44,13 @@ impl Clock for HourClock {
 
 const NOW: &str = "GET /clock?station=Pier HTTP/1.1\r\nHost: a\r\n\r\n";
 
-fn assert_says(rt: &impl Abort, alloc: Global, outcome: &Outcome, i: u64, line: &str) {
-    let reply = outcome
-        .door
-        .reply(i)
-        .unwrap_or(b"")
-        .to_vec(alloc)
-        .expect(rt, "a copy");
-    let reply = String::from_utf8(reply).expect(rt, "a text");
-    assert_holds(rt, reply.as_str().contains(line), line);
+/// Returns true if the reply with this number, the first being 0, has this line.
+fn says(outcome: &Outcome, i: u64, line: &str) -> bool {
+    let reply = outcome.door.reply(i).unwrap_or(b"");
+    match std::str::from_utf8(reply) {
+        Ok(text) => text.contains(line),
+        Err(_) => false,
+    }
 }
 
 /// The number of a reply, and a line of it.
@@ -62,19 +59,22 @@ const SHOWN: &[(u64, &str)] = &[
     (2, "\nNow 2000-01-10 04:00 UTC      -0.50 feet  Falling\n"),
 ];
 
+fn assert_shown(rt: &impl Abort, outcome: &Outcome) {
+    assert_done(rt, outcome, ASKED);
+    for &(i, line) in SHOWN {
+        assert_holds(rt, says(outcome, i, line), line);
+    }
+}
+
 #[test]
 fn each_request_is_answered_at_its_own_minute(rt: HostRuntime) {
-    let alloc = rt.alloc();
     let requests = [Coming::Whole(NOW), Coming::Whole(""), Coming::Whole(NOW)];
     let mut clock = HourClock {
         hours: 0,
         readings: Log::new(),
     };
-    let outcome = serve_by(&rt, alloc, ASKED, &requests, 4096, NONE, &mut clock);
-    assert_done(&rt, &outcome, ASKED);
-    for &(i, line) in SHOWN {
-        assert_says(&rt, alloc, &outcome, i, line);
-    }
+    let outcome = serve_by(&rt, rt.alloc(), ASKED, &requests, 4096, NONE, &mut clock);
+    assert_shown(&rt, &outcome);
 }
 
 const YEAR: &str =
@@ -84,19 +84,17 @@ const YEAR: &str =
 /// station's name.
 const LINES: usize = 5 + 1 + 4 * 366;
 
+fn assert_year(rt: &impl Abort, outcome: &Outcome) {
+    assert_done(rt, outcome, ASKED);
+    let reply = outcome.door.reply(0).unwrap_or(b"");
+    assert_holds(rt, reply.starts_with(b"HTTP/1.1 200 OK\r\n"), YEAR);
+    let lines = reply.iter().filter(|byte| **byte == b'\n').count();
+    assert_count(rt, lines, LINES, YEAR);
+}
+
 #[test]
 fn a_list_of_a_year_is_sent_whole(rt: HostRuntime) {
-    let outcome = serve_over(
-        &rt,
-        rt.alloc(),
-        ASKED,
-        &[Coming::Whole(YEAR)],
-        1_000_000,
-        NONE,
-    );
-    assert_done(&rt, &outcome, ASKED);
-    let reply = outcome.door.reply(0).unwrap_or(b"");
-    assert_holds(&rt, reply.starts_with(b"HTTP/1.1 200 OK\r\n"), YEAR);
-    let lines = reply.iter().filter(|byte| **byte == b'\n').count();
-    assert_count(&rt, lines, LINES, YEAR);
+    let requests = [Coming::Whole(YEAR)];
+    let outcome = serve_over(&rt, rt.alloc(), ASKED, &requests, 1_000_000, NONE);
+    assert_year(&rt, &outcome);
 }

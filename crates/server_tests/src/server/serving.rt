@@ -159,9 +159,8 @@ fn each_connection_has_its_reply(rt: HostRuntime) {
         Coming::ByBytes(LOST),
         Coming::Whole("GET"),
     ];
-    let outcome = serve_over(&rt, rt.alloc(), ASKED, &requests, 4096, NONE);
-    assert_done(&rt, &outcome, ASKED);
-    assert_replies(&rt, &outcome, &[NOT_FOUND, "", NOT_FOUND, BAD], ASKED);
+    let replies = [NOT_FOUND, "", NOT_FOUND, BAD];
+    assert_served(&rt, rt.alloc(), ASKED, &requests, &replies);
 }
 
 /// The arguments of a server, a request, and its reply.
@@ -249,7 +248,15 @@ fn heads_that_are_too_large_are_answered(rt: HostRuntime) {
 
 /// A call that fails during three connections, its name, and the status, the lines and the replies that
 /// follow.
-const FAILING: &[(&str, Fails, Status, &str, &[&str])] = &[
+type Failing = (
+    &'static str,
+    Fails,
+    Status,
+    &'static str,
+    &'static [&'static str],
+);
+
+const FAILING: &[Failing] = &[
     (
         "call 1 of door",
         Fails { door: 1, ..NONE },
@@ -315,27 +322,27 @@ const FAILING: &[(&str, Fails, Status, &str, &[&str])] = &[
     ),
 ];
 
+fn assert_failed(rt: &impl Abort, outcome: &Outcome, failing: &Failing) {
+    let &(case, _, status, printed, replies) = failing;
+    assert_end(rt, outcome, status.number(), printed, case);
+    assert_replies(rt, outcome, replies, case);
+}
+
 #[test]
 fn a_failed_call_ends_what_it_is_of(rt: HostRuntime) {
-    let requests = [
-        Coming::Whole(LOST),
-        Coming::Whole(LOST),
-        Coming::Whole(LOST),
-    ];
-    for &(case, fails, status, printed, replies) in FAILING {
-        let outcome = serve_over(&rt, rt.alloc(), ASKED, &requests, 4096, fails);
-        assert_end(&rt, &outcome, status.number(), printed, case);
-        assert_replies(&rt, &outcome, replies, case);
+    let requests = [Coming::Whole(LOST); 3];
+    for failing in FAILING {
+        let outcome = serve_over(&rt, rt.alloc(), ASKED, &requests, 4096, failing.1);
+        assert_failed(&rt, &outcome, failing);
     }
 }
 
 #[test]
 fn a_full_line_cuts_the_reply_short(rt: HostRuntime) {
-    let requests = [Coming::Whole(LOST), Coming::Whole(LOST)];
+    let requests = [Coming::Whole(LOST); 2];
     let outcome = serve_over(&rt, rt.alloc(), ASKED, &requests, 10, NONE);
     assert_done(&rt, &outcome, ASKED);
-    assert_reply(&rt, &outcome, 0, Some("HTTP/1.1 4"), ASKED);
-    assert_reply(&rt, &outcome, 1, Some(""), ASKED);
+    assert_replies(&rt, &outcome, &["HTTP/1.1 4", ""], ASKED);
 }
 
 /// Arguments, and the status and the line that follow.
@@ -369,11 +376,15 @@ const REFUSED: &[(&str, u8, &str)] = &[
     ),
 ];
 
+fn assert_refused(rt: &impl Abort, alloc: Global, line: &str, status: u8, printed: &str) {
+    let outcome = serve_over(rt, alloc, line, &[Coming::Whole(LOST)], 4096, NONE);
+    assert_end(rt, &outcome, status, printed, line);
+    assert_reply(rt, &outcome, 0, None, line);
+}
+
 #[test]
 fn what_keeps_the_server_from_serving_is_printed(rt: HostRuntime) {
     for &(line, status, printed) in REFUSED {
-        let outcome = serve_over(&rt, rt.alloc(), line, &[Coming::Whole(LOST)], 4096, NONE);
-        assert_end(&rt, &outcome, status, printed, line);
-        assert_reply(&rt, &outcome, 0, None, line);
+        assert_refused(&rt, rt.alloc(), line, status, printed);
     }
 }
