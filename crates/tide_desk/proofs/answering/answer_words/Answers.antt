@@ -46,9 +46,9 @@ returns-in-Some-clause-reads g c =
 
 pub returns-in-Some-clause-untouched : goal.returns-in-Some-clause-untouched
 returns-in-Some-clause-untouched g c = (
-      λ nameless. absurd (nameless (names_file _ c.in_ok-question.question c.in-Some.name c.in_ok-question.ensures.exact c.in-Some.is)),
-      rw c.in_ok-question.ensures.exact (rw c.new-valid.ensures at c.answer_over-answered.ensures.clock_unread),
-    )
+  λ nameless. absurd (nameless (names_file _ c.in_ok-question.question c.in-Some.name c.in_ok-question.ensures.exact c.in-Some.is)),
+  rw c.in_ok-question.ensures.exact (rw c.new-valid.ensures at c.answer_over-answered.ensures.clock_unread),
+)
 
 pub returns-in-Some-clause-last : goal.returns-in-Some-clause-last
 returns-in-Some-clause-last g c =
