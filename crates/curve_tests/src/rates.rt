@@ -67,8 +67,8 @@ fn check_slopes<C: Curve>(rt: &impl Abort, plain_parts: &mut C, all_parts: &mut 
 
 const HIGH: i128 = 4_147_200_000_000_000_000_000_000_000_000;
 
-/// The rate of the level in a cell of a quarter or a third of the period, in which the curve has no new
-/// year, and in the eve's, each in the unit of its curve.
+/// What is stated of a quarter of a period, and of a third of one. Their rates are those of the level,
+/// 36,192,618,547,200,000,000,000, times the factor of the curve, 1,000,000 or 2,000,000.
 const QUARTER: Stated = (
     Some(36_192_618_547_200_000_000_000_000_000),
     HIGH,
