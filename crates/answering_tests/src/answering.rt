@@ -13,18 +13,19 @@ use decimal_text::{Bytes, Text};
 use harmonics_book::Book;
 use harmonics_text::read_book;
 use question::ValidQuestion;
-use rows::{ASK_FAULTS, CUT_SHORT, HALF_SLACK, REFUSALS, STREAMS};
+use rows::{FAULTS, STREAMS};
 use station_span::{worked_levels, worked_spans};
 use station_table::{OffsetTable, read_offsets};
 use std::alloc::Global;
 use std::process::Abort;
 use tide_answer::{
-    Fault, Slot, accepted_is_short, accepted_is_true, accepted_peak_is_short,
+    Fault, Given, accepted_is_short, accepted_is_true, accepted_peak_is_short,
     accepted_peak_is_true, answer_alone, certified_is_accepted, fault_line, fault_status,
     highest_is_reported, peak_certified_is_accepted, peak_certified_is_short, sample_row_counts,
 };
 use tide_edge::MemorySink;
 use tide_fault::worked_lines;
+use zone_time::Zone;
 
 const PIER: &[u8] =
     b"1\nS2 30\n1999\n3\nS2\n0 0 0\n*END*\n3\nS2\n1 1 1\n*END*\nPier\n0:00 :UTC\n0 feet\nS2 1 0\n\
@@ -49,30 +50,29 @@ fn table(rt: &impl Abort, alloc: Global) -> OffsetTable {
 }
 
 /// Returns the request of the arguments in `line`, separated by `|`, about the pier, the current or a
-/// subordinate station.
+/// subordinate station, in universal time, with an empty certificate, at 2000-01-10T03:00Z.
 fn pier_case(rt: &impl Abort, alloc: Global, line: &str) -> Case
     ensures book { IsBook result.book }
     ensures question { IsAsked result.question }
     ensures inputs { IsGiven result.inputs }
 {
-    let question = asked(rt, alloc, line);
-    let table = table(rt, alloc);
-    Case::new(alloc, pier(rt, alloc), table, question)
+    Case {
+        book: pier(rt, alloc),
+        table: table(rt, alloc),
+        question: asked(rt, alloc, line),
+        inputs: Given {
+            zone: Zone::Utc,
+            certificate: Bytes::from_vec(Vec::new(alloc)),
+            now: 15_791_220,
+        },
+    }
 }
 
-/// Writes the answer to `line` to a sink that accepts `most` bytes in a write, and returns the sink and, if
-/// the write with the number `failing` failed, the number of bytes sent before it.
-fn streamed(
-    rt: &impl Abort,
-    alloc: Global,
-    line: &str,
-    most: u64,
-    failing: u64,
-) -> (MemorySink, Option<u64>) {
+/// Returns a sink that accepts `most` bytes in a write, and at which the write with the number `failing`
+/// fails.
+fn sink(rt: &impl Abort, alloc: Global, most: u64, failing: u64) -> MemorySink {
     let fails = [failing].to_vec(alloc).expect(rt, "a schedule");
-    let mut sink = MemorySink::new(alloc, most.max(1), 100_000, fails).expect(rt, "a sink");
-    let sent = stream(rt, alloc, line, &mut sink);
-    (sink, sent)
+    MemorySink::new(alloc, most.max(1), 100_000, fails).expect(rt, "a sink")
 }
 
 /// Writes the answer to `line` to `sink`, and returns the number of bytes sent before a write that failed.
@@ -108,12 +108,14 @@ fn assert_streamed(
     text: &[u8],
     call: &(u64, u64, Option<u64>),
 ) {
-    let (sink, sent) = streamed(rt, alloc, line, call.0, call.1);
+    let mut sink = sink(rt, alloc, call.0, call.1);
+    let sent = stream(rt, alloc, line, &mut sink);
     assert_taken(rt, sink.bytes(), sent, text, line, call);
 }
 
 fn assert_streams(rt: &impl Abort, alloc: Global, line: &str, calls: &[(u64, u64, Option<u64>)]) {
-    let (whole, _) = streamed(rt, alloc, line, 5_000, 0);
+    let mut whole = sink(rt, alloc, 5_000, 0);
+    stream(rt, alloc, line, &mut whole);
     assert_holds(rt, whole.bytes().len() > 4_096, line);
     for call in calls {
         assert_streamed(rt, alloc, line, whole.bytes(), call);
@@ -127,28 +129,26 @@ fn answers_are_written_as_they_are_found(rt: HostRuntime) {
     }
 }
 
-/// Returns the text of an answer for which no file is read.
-fn printed_alone(rt: &impl Abort, alloc: Global, line: &str) -> Bytes {
+/// Asserts that the answer to `line`, for which no file is read, is `text`.
+fn assert_alone(rt: &impl Abort, alloc: Global, line: &str, text: &str) {
     let question = asked(rt, alloc, line);
     let answer = answer_alone(alloc, &ValidQuestion::new(&question)).expect(rt, "an answer");
-    answer.text
+    assert_bytes(rt, answer.text.as_slice(), text.as_bytes(), line);
 }
 
 #[test]
 fn a_trial_needs_no_file(rt: HostRuntime) {
-    let line = "trial|seed=0";
-    let alone = printed_alone(&rt, rt.alloc(), line);
-    assert_bytes(&rt, alone.as_slice(), TRIAL.as_bytes(), line);
+    assert_alone(&rt, rt.alloc(), "trial|seed=0", TRIAL);
 }
 
 const TRIAL: &str = "seed 0\nstations 40\nminutes 4285440\nevents 10902\ncells 325629\n\
     quiet 237516\naccepted 40\n";
 
-fn assert_line(rt: &impl Abort, alloc: Global, fault: Fault, status: u8, line: &str) {
-    let printed = fault_line(alloc, &fault, &OffsetTable::new(alloc)).expect(rt, "a line");
+fn assert_line(rt: &impl Abort, alloc: Global, fault: &Fault, status: u8, line: &str) {
+    let printed = fault_line(alloc, fault, &OffsetTable::new(alloc)).expect(rt, "a line");
     assert_count(
         rt,
-        usize::from(fault_status(&fault).number()),
+        usize::from(fault_status(fault).number()),
         usize::from(status),
         line,
     );
@@ -156,16 +156,9 @@ fn assert_line(rt: &impl Abort, alloc: Global, fault: Fault, status: u8, line: &
 }
 
 #[test]
-fn faults_of_arguments_have_their_lines(rt: HostRuntime) {
-    for &(fault, status, line) in ASK_FAULTS {
-        assert_line(&rt, rt.alloc(), Fault::Ask(fault), status, line);
-    }
-}
-
-#[test]
-fn refusals_have_their_lines(rt: HostRuntime) {
-    for &(refusal, status, line) in REFUSALS {
-        assert_line(&rt, rt.alloc(), Fault::Refused(refusal), status, line);
+fn faults_have_their_lines(rt: HostRuntime) {
+    for (fault, status, line) in FAULTS {
+        assert_line(&rt, rt.alloc(), &fault.fault(), *status, line);
     }
 }
 
@@ -174,34 +167,7 @@ fn an_unknown_sheet_has_its_line(rt: HostRuntime) {
     let alloc = rt.alloc();
     let word = Text::from_str(alloc, "graph").expect(&rt, "a word");
     let line = "refused: no sheet graph\n";
-    assert_line(&rt, alloc, Fault::NoSheet { word }, 4, line);
-}
-
-#[test]
-fn faults_of_files_have_their_lines(rt: HostRuntime) {
-    let alloc = rt.alloc();
-    assert_line(
-        &rt,
-        alloc,
-        Fault::Book(CUT_SHORT),
-        3,
-        "file: line 16: cut short (11)\n",
-    );
-    assert_line(
-        &rt,
-        alloc,
-        Fault::Offsets(HALF_SLACK),
-        3,
-        "offsets: row 2: half slack (8)\n",
-    );
-    assert_line(&rt, alloc, Fault::BadZone, 3, "zone: bad zone file\n");
-    assert_line(
-        &rt,
-        alloc,
-        Fault::TooLong(Slot::Zone),
-        3,
-        "zone: too long\n",
-    );
+    assert_line(&rt, alloc, &Fault::NoSheet { word }, 4, line);
 }
 
 #[test]

@@ -84,15 +84,6 @@ fn find_day(rt: &impl Abort, alloc: Global, book: &Book, table: &OffsetTable, na
     assert_eq!(rt; listed.events.as_slice().len(), 4);
 }
 
-#[test]
-fn a_station_has_its_events(rt: HostRuntime) {
-    let alloc = rt.alloc();
-    let name = Text::from_str(alloc, "Pier").expect(&rt, "a name");
-    let book = pier(&rt, alloc);
-    let table = OffsetTable::new(alloc);
-    find_day(&rt, alloc, &book, &table, &name);
-}
-
 fn find_highest_water(rt: &impl Abort, alloc: Global, book: &Book, table: &OffsetTable, name: &Text)
     requires { IsBook book.now }
 {
@@ -110,11 +101,12 @@ fn find_highest_water(rt: &impl Abort, alloc: Global, book: &Book, table: &Offse
 }
 
 #[test]
-fn a_span_has_its_highest_water(rt: HostRuntime) {
+fn a_station_has_its_events_and_its_highest_water(rt: HostRuntime) {
     let alloc = rt.alloc();
     let name = Text::from_str(alloc, "Pier").expect(&rt, "a name");
     let book = pier(&rt, alloc);
     let table = OffsetTable::new(alloc);
+    find_day(&rt, alloc, &book, &table, &name);
     find_highest_water(&rt, alloc, &book, &table, &name);
 }
 
@@ -129,13 +121,6 @@ fn answer_day(rt: &impl Abort, alloc: Global, book: &Book, table: &OffsetTable, 
     };
     let answered = answer(alloc, &book, &table, &question, &inputs).expect(rt, "an answer");
     assert_eq!(rt; answered.text.as_slice(), DAY.as_bytes());
-}
-
-#[test]
-fn a_request_is_answered(rt: HostRuntime) {
-    let sources = pier_sources(&rt, rt.alloc());
-    let (book, table, question) = (&sources.book, &sources.table, &sources.question);
-    answer_day(&rt, rt.alloc(), book, table, question);
 }
 
 fn check_certificate(rt: &impl Abort, alloc: Global, book: &Book, table: &OffsetTable)
@@ -154,13 +139,6 @@ fn check_certificate(rt: &impl Abort, alloc: Global, book: &Book, table: &Offset
     let checked = answer(alloc, &book, &table, &question, &inputs).expect(rt, "an answer");
     assert!(rt; !checked.rejected);
     assert_bytes(rt, checked.text.as_slice(), b"Accepted\nPier\n", "check");
-}
-
-#[test]
-fn a_certificate_is_checked(rt: HostRuntime) {
-    let book = pier(&rt, rt.alloc());
-    let table = OffsetTable::new(rt.alloc());
-    check_certificate(&rt, rt.alloc(), &book, &table);
 }
 
 fn list_day(
@@ -204,7 +182,7 @@ fn list_dates(
 }
 
 #[test]
-fn events_are_laid_out(rt: HostRuntime) {
+fn requests_are_answered_and_events_laid_out(rt: HostRuntime) {
     let alloc = rt.alloc();
     let sources = pier_sources(&rt, alloc);
     let inputs = Given {
@@ -213,6 +191,8 @@ fn events_are_laid_out(rt: HostRuntime) {
         now: 0,
     };
     let (book, table, question) = (&sources.book, &sources.table, &sources.question);
+    answer_day(&rt, alloc, book, table, question);
+    check_certificate(&rt, alloc, book, table);
     list_day(&rt, alloc, book, table, question, &inputs);
     list_dates(&rt, alloc, book, table, question, &inputs);
 }

@@ -4,7 +4,6 @@ ghost use Rattle.harmonics_book.specs.Books.{IsBook};
 ghost use Rattle.question.specs.Asked.{IsAsked};
 ghost use Rattle.tide_answer.specs.Givens.{IsGiven};
 
-use decimal_text::Bytes;
 use harmonics_book::Book;
 use question::{Command, Question, pairs_of_words, read_question};
 use sample_tides::words_of;
@@ -13,7 +12,6 @@ use std::alloc::{AllocError, Global};
 use std::process::Abort;
 use tide_answer::{Given, Ready, answer_into, prepare};
 use tide_edge::MemorySink;
-use zone_time::Zone;
 
 /// A request with all that its answer depends on: the harmonic constants, the table of subordinate
 /// stations, and the zone, certificate and current minute.
@@ -26,27 +24,6 @@ pub struct Case {
 }
 
 impl Case {
-    /// Returns the case of `question` over the constants `book` and the offsets `table`, in universal
-    /// time, with an empty certificate, at 2000-01-10T03:00Z.
-    pub fn new(alloc: Global, book: Book, table: OffsetTable, question: Question) -> Case
-        requires book { IsBook book }
-        requires question { IsAsked question }
-        ensures book { IsBook result.book }
-        ensures question { IsAsked result.question }
-        ensures inputs { IsGiven result.inputs }
-    {
-        Case {
-            book,
-            table,
-            question,
-            inputs: Given {
-                zone: Zone::Utc,
-                certificate: Bytes::from_vec(Vec::new(alloc)),
-                now: 15_791_220,
-            },
-        }
-    }
-
     /// Streams the answer to `sink`. Returns `None` if all of it was written, or the number of bytes
     /// that `sink` had accepted when a write failed.
     ///

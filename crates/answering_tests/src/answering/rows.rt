@@ -3,66 +3,111 @@
 use harmonics_text::{BookFault, Why};
 use question::{AskFault, Key};
 use station_table::{OffsetFault, OffsetWhy};
-use tide_answer::Refusal;
+use tide_answer::{Fault, Refusal, Slot};
 
-/// Examples of invalid arguments: a fault, the exit status of the program for it, and the line that it
-/// prints.
-pub const ASK_FAULTS: &[(AskFault, u8, &str)] = &[
-    (AskFault::UnknownCommand, 2, "words: unknown command\n"),
-    (AskFault::NotAPair(1), 2, "words: pair 1 is not key=value\n"),
+/// A fault without a text.
+pub enum PlainFault {
+    Ask(AskFault),
+    Book(BookFault),
+    Offsets(OffsetFault),
+    BadZone,
+    ZoneTooLong,
+    Refused(Refusal),
+}
+
+impl PlainFault {
+    pub fn fault(&self) -> Fault {
+        match *self {
+            PlainFault::Ask(fault) => Fault::Ask(fault),
+            PlainFault::Book(fault) => Fault::Book(fault),
+            PlainFault::Offsets(fault) => Fault::Offsets(fault),
+            PlainFault::BadZone => Fault::BadZone,
+            PlainFault::ZoneTooLong => Fault::TooLong(Slot::Zone),
+            PlainFault::Refused(refusal) => Fault::Refused(refusal),
+        }
+    }
+}
+
+/// Faults, with the exit status of the program and the line that it prints: invalid arguments, files with
+/// an error, and refused requests.
+pub static FAULTS: &[(PlainFault, u8, &str)] = &[
     (
-        AskFault::UnknownKey(12),
+        PlainFault::Ask(AskFault::UnknownCommand),
+        2,
+        "words: unknown command\n",
+    ),
+    (
+        PlainFault::Ask(AskFault::NotAPair(1)),
+        2,
+        "words: pair 1 is not key=value\n",
+    ),
+    (
+        PlainFault::Ask(AskFault::UnknownKey(12)),
         2,
         "words: pair 12 has an unknown key\n",
     ),
-    (AskFault::RepeatedKey(3), 2, "words: pair 3 repeats a key\n"),
-    (AskFault::BadValue(4), 2, "words: pair 4 has a bad value\n"),
     (
-        AskFault::MissingKey(Key::Sheets),
+        PlainFault::Ask(AskFault::RepeatedKey(3)),
+        2,
+        "words: pair 3 repeats a key\n",
+    ),
+    (
+        PlainFault::Ask(AskFault::BadValue(4)),
+        2,
+        "words: pair 4 has a bad value\n",
+    ),
+    (
+        PlainFault::Ask(AskFault::MissingKey(Key::Sheets)),
         2,
         "words: sheets is missing\n",
     ),
-];
-
-/// The error that a harmonics file ends too early, reported at line 16.
-pub const CUT_SHORT: BookFault = BookFault::At {
-    line: 16,
-    why: Why::CutShort,
-};
-
-pub const HALF_SLACK: OffsetFault = OffsetFault::At {
-    row: 2,
-    why: OffsetWhy::HalfSlack,
-};
-
-/// Examples of refused requests: a refusal, the exit status of the program for it, and the line that it
-/// prints.
-pub const REFUSALS: &[(Refusal, u8, &str)] = &[
-    (Refusal::Hydraulic, 4, "refused: hydraulic\n"),
     (
-        Refusal::SpanTooLong { minutes: 5_270_401 },
+        PlainFault::Book(BookFault::At {
+            line: 16,
+            why: Why::CutShort,
+        }),
+        3,
+        "file: line 16: cut short (11)\n",
+    ),
+    (
+        PlainFault::Offsets(OffsetFault::At {
+            row: 2,
+            why: OffsetWhy::HalfSlack,
+        }),
+        3,
+        "offsets: row 2: half slack (8)\n",
+    ),
+    (PlainFault::BadZone, 3, "zone: bad zone file\n"),
+    (PlainFault::ZoneTooLong, 3, "zone: too long\n"),
+    (
+        PlainFault::Refused(Refusal::Hydraulic),
+        4,
+        "refused: hydraulic\n",
+    ),
+    (
+        PlainFault::Refused(Refusal::SpanTooLong { minutes: 5_270_401 }),
         5,
         "limit: span of 5270401 minutes\n",
     ),
     (
-        Refusal::TooSteep { year: 1999 },
+        PlainFault::Refused(Refusal::TooSteep { year: 1999 }),
         5,
         "limit: too steep in 1999\n",
     ),
     (
-        Refusal::NotACertificate { line: 9 },
+        PlainFault::Refused(Refusal::NotACertificate { line: 9 }),
         3,
         "certificate: line 9\n",
     ),
     (
-        Refusal::BadSample {
+        PlainFault::Refused(Refusal::BadSample {
             line: 3,
             why: Why::BadNumber,
-        },
+        }),
         3,
         "file: line 3: bad number (3)\n",
     ),
-    (Refusal::NoMemory, 8, "no memory\n"),
+    (PlainFault::Refused(Refusal::NoMemory), 8, "no memory\n"),
 ];
 
 /// Examples of answers that are streamed through a buffer of 4,096 bytes: the arguments, and for each
