@@ -5,7 +5,7 @@ use Rattle.std.specs.Result.{IsErrAnd}
 use Rattle.named_files.specs.declared.loading.LoadFault.{LoadFault}
 use Rattle.named_files.specs.declared.loading.LoadFault.TheVariants as load
 use Rattle.named_files.specs.Loading.{loaded, source_of as source_of_loading}
-use Rattle.decimal_text.specs.Expected.{Meets, memory, outside, given}
+use Rattle.decimal_text.specs.Expected.{◌>>=◌, Meets, memory, outside, given}
 use Rattle.harmonics_book.specs.declared.book.Book.{Book as TheBook}
 use Rattle.harmonics_text.specs.declared.fault.BookFault.TheVariants as form
 use Rattle.question.specs.declared.question.Question.{Question}
@@ -16,18 +16,18 @@ use Rattle.std.proofs.lemmas.Option.{slice_get_cases}
 use Rattle.tide_edge.specs.FileStates.{Folder, Opening, Openings, FileContents, as_list, openings_of}
 use Rattle.tide_edge.specs.FileStates.{FilesState}
 use Rattle.tide_edge.specs.StoreLaws.{IsLawful, IsOfStore}
-use Rattle.tide_edge.proofs.ReadingLemmas.{all_of_store, once_as, shows_by_law}
-use Rattle.tide_edge.specs.Whole.{IsOutOfMemory, OpenedOnce, Shows, is_read_out, whole, source_of as source_of_reading}
+use Rattle.tide_edge.proofs.ReadingLemmas.{all_of_store, once_as, read_none, shows_by_law}
+use Rattle.tide_edge.specs.Whole.{IsOutOfMemory, OpenedOnce, Shows, is_read_out, no_file, whole, source_of as source_of_reading}
 use Rattle.tide_edge.specs.declared.files.read_all_fault.ReadAllFault.{ReadAllFault}
 use Rattle.tide_edge.specs.declared.files.read_all_fault.ReadAllFault.TheVariants as reading
 use Rattle.tide_fault.specs.declared.slot.Slot.{Slot}
 use Rattle.tide_fault.specs.declared.slot.Slot.TheVariants.{File, Offsets, Zone, Certificate}
 use Rattle.named_files.specs.declared.run_fault.RunFault.{RunFault}
 use Rattle.named_files.specs.RunFaults.{IsOf, file_of, source_of}
-use Rattle.named_files.specs.Opened.{AreOpened, AreShown, AreShownFor, IsShown, Opened, folders_shown, index_of, names_of, names_to, shown}
+use Rattle.named_files.specs.Opened.{AreOpened, AreShown, AreShownFor, IsShown, Opened, ReadsFile, folders_shown, index_of, names_of, names_to, shown}
 use Rattle.named_files.specs.declared.materials.Materials.{Materials}
 use Rattle.named_files.specs.Readings.{Folders, book_named, bytes_from, bytes_of, files_in, limit_of, zone_file}
-use Rattle.named_files.proofs.ReadingLemmas.{excuses_book, excuses_bytes, named_book, named_from}
+use Rattle.named_files.proofs.ReadingLemmas.{IsOfContents, excuses_book, excuses_bytes, meets_at, meets_inside, named_book, named_from}
 
 out_of_memory_meets : {T : Type 0} (firm : Type 0) (expected result : Result T RunFault) → IsOutOfMemory source_of result
     → Meets source_of firm expected result
@@ -38,16 +38,12 @@ out_of_memory_whole : {T : Type 0} (P : Type 0) (result : Result T RunFault) →
 out_of_memory_whole P (Ok value) of_memory = absurd of_memory
 out_of_memory_whole P (Err none) of_memory = tt
 
-pub always_whole : {T : Type 0} (P : Type 0) (result : Result T RunFault) → P → OnOk result P
+always_whole : {T : Type 0} (P : Type 0) (result : Result T RunFault) → P → OnOk result P
 always_whole P (Ok value) p = p
 always_whole P (Err none) p = tt
 
-pub never_whole : {T : Type 0} (P : Type 0) (result : Result T RunFault) (none : RunFault) → IsErrAnd result (λ e. e ≡ none) → OnOk result P
-never_whole P (Ok value) none is = absurd is
-never_whole P (Err it) none is = tt
-
 -- a file that is named
-pub opened_named : {T : Type 0} (slot : Slot) (name : List ℕ) (expected : Option (List ℕ) → Result T RunFault) (before after : Openings)
+opened_named : {T : Type 0} (slot : Slot) (name : List ℕ) (expected : Option (List ℕ) → Result T RunFault) (before after : Openings)
     (result : Result T RunFault) → OpenedOnce source_of expected (limit_of slot) name before after result
     → Opened slot (Some name) (λ folder. expected (folder name)) before after result
 opened_named slot name expected before after result (inl (same, of_memory)) = record {
@@ -69,7 +65,7 @@ opened_named slot name expected before after result (inr (opening, named, is, an
 }
 
 -- no file is named
-pub opened_none : {T : Type 0} (slot : Slot) (expected : Folder → Result T RunFault) (before : Openings) (result : Result T RunFault)
+opened_none : {T : Type 0} (slot : Slot) (expected : Folder → Result T RunFault) (before : Openings) (result : Result T RunFault)
     → ((firm : Bool) (folder : Folder) → Meets source_of (IsTrue firm) (expected folder) result)
     → Opened slot None expected before before result
 opened_none slot expected before result meets = record {
@@ -81,21 +77,63 @@ opened_none slot expected before result meets = record {
   answer = λ firm folder is. meets firm folder;
 }
 
--- a fact that follows from the expected result of a file
-pub opened_as : {T S : Type 0} (slot : Slot) (name : Option (List ℕ)) (expected : Folder → Result T RunFault)
-    (also : Folder → Result S RunFault) (before after : Openings) (result : Result T RunFault) (other : Result S RunFault)
-    → ((firm : Bool) (folder : Folder) → Meets source_of (IsTrue firm) (expected folder) result
-    → Meets source_of (IsTrue firm) (also folder) other)
-    → ((left : List (List ℕ)) → OnOk result (left ≡ []) → OnOk other (left ≡ []))
-    → Opened slot name expected before after result → Opened slot name also before after other
-opened_as slot name expected also before after result other says whole o = record {
-  open_log = o.open_log;
-  unopened = o.unopened;
-  all = o.all;
-  names = o.names;
-  whole = whole o.unopened o.whole;
-  answer = λ firm folder is. says firm folder (o.answer firm folder is);
+-- ---- The reading of one file
+
+-- no file is named
+pub reads_none : {T : Type 0} {slot : Slot} {expected : Folder → Result T RunFault} {IsValid : T → Type 0} {state : FilesState} {value : T}
+    → ((folder : Folder) → expected folder ≡ Ok value) → IsValid value → ReadsFile slot None expected IsValid state state (Ok value)
+reads_none {slot = slot} {expected = expected} {state = state} {value = value} is valid = record {
+  opened = opened_none slot expected state.open_log (Ok value) (λ firm folder. is folder);
+  unnamed = λ none. sym (is (λ _. None));
+  valid = valid;
+  read = read_none no_file state;
+  fault = tt;
 }
+
+module _ {S : Type 0} {slot : Slot} {name : List ℕ} {IsShort : List ℕ → Type 0} {before after : FilesState} {next : List ℕ → Result S RunFault}
+    {IsValid : S → Type 0} where
+  -- the bytes couldn't be read
+  pub reads_fault : {none : RunFault} (result : Result S RunFault) → IsErrAnd result (λ e. e ≡ none)
+      → ReadsFile slot (Some name) (λ folder. bytes_of slot (folder name)) IsShort before after (Err none)
+      → ReadsFile slot (Some name) (λ folder. bytes_of slot (folder name) >>= next) IsValid before after result
+  reads_fault (Ok value) is bytes = absurd is
+  reads_fault {none = none} (Err e) is bytes =
+      rw is
+      (record {
+        opened = record {
+          open_log = bytes.opened.open_log;
+          unopened = bytes.opened.unopened;
+          all = bytes.opened.all;
+          names = bytes.opened.names;
+          whole = tt;
+          answer = λ firm folder shows.
+              meets_at (IsTrue firm) (bytes_of slot (folder name)) next (Err none) none refl (bytes.opened.answer firm folder shows);
+        };
+        unnamed = λ no_name. cc;
+        valid = tt;
+        read = bytes.read;
+        fault = bytes.fault;
+      })
+
+  -- the bytes were read, and a step that touches no file reads the contents
+  pub reads_contents : {bytes : List ℕ} (result : Result S RunFault) → IsOfContents slot IsValid (next bytes) result
+      → ReadsFile slot (Some name) (λ folder. bytes_of slot (folder name)) IsShort before after (Ok bytes)
+      → ReadsFile slot (Some name) (λ folder. bytes_of slot (folder name) >>= next) IsValid before after result
+  reads_contents result contents bytes = record {
+    opened = record {
+      open_log = bytes.opened.open_log;
+      unopened = bytes.opened.unopened;
+      all = bytes.opened.all;
+      names = bytes.opened.names;
+      whole = always_whole _ result bytes.opened.whole;
+      answer = λ firm folder shows.
+          rw (bytes.opened.answer firm folder shows) (meets_inside (IsTrue firm) (next _) result contents.same);
+    };
+    unnamed = λ no_name. cc;
+    valid = contents.valid;
+    read = rw contents.read bytes.read;
+    fault = contents.fault;
+  }
 
 -- the element at an index after that many others
 get_behind : (before : List Opening) (here : Opening) (more : List Opening) → slice_get (before ++ here ∷ more) (length before) ≡ Some here

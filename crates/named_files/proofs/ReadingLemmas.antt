@@ -22,14 +22,14 @@ use Rattle.decimal_text.specs.Expected.{Source, memory, outside, given, Excuses,
 use Rattle.tide_edge.specs.FileStates.{Folder}
 use Rattle.question.specs.declared.question.Question.{Question}
 use Rattle.std.specs.Option.{ForSome}
-use Rattle.std.specs.Result.{IfErr}
+use Rattle.std.specs.Result.{IfErr, IfOk}
 use Rattle.tide_edge.specs.FileStates.{FilesState}
 use Rattle.tide_edge.specs.Whole.{Allowance, ReadWithin, both, one_file, whole, source_of as source_of_reading}
 use Rattle.tide_edge.proofs.ReadingLemmas.{read_then}
 use Rattle.zone_time.specs.declared.zone.Zone.{Zone as TheZone}
 use Rattle.zone_time.specs.declared.zone_fault.ZoneFault.{ZoneFault}
 use Rattle.zone_time.specs.declared.zone_fault.ZoneFault.TheVariants as zones
-use Rattle.zone_time.specs.Zones.{is_out_of_memory as zone_is_out_of_memory}
+use Rattle.zone_time.specs.Zones.{IsZone, is_out_of_memory as zone_is_out_of_memory}
 use Rattle.named_files.specs.declared.run_fault.RunFault.{RunFault}
 use Rattle.named_files.specs.declared.run_fault.RunFault.TheVariants.{Unread, Faulty, Refused}
 use Rattle.named_files.specs.RunFaults.{IsOf, file_of, is_unread, reading_failed, source_of, faulty, is_out_of_memory}
@@ -85,18 +85,25 @@ pub meets_inside : {A : Type 0} (firm : Type 0) (expected result : Result A RunF
 meets_inside firm expected (Ok value) returned = returned
 meets_inside firm expected (Err none) returned = returned_excuses firm expected none returned
 
+-- the result of a step that touches no file, for the bytes of a file of this kind
+pub record IsOfContents {T : Type 0} (slot : Slot) (IsValid : T → Type 0) (expected result : Result T RunFault) : Type 0 where
+  pub same : EqualsUnlessNoMemory is_out_of_memory expected result
+  pub valid : IfOk result IsValid
+  pub read : reading_failed result ≡ false
+  pub fault : IfErr result (IsOf slot)
+
 -- a table and a zone that were read, with the reasons of a run
 pub table_inside : (expected read : Result (List TableRow) OffsetFault) → EqualsUnlessNoMemory table_is_out_of_memory expected read
-    → EqualsUnlessNoMemory is_out_of_memory (table_from expected) (table_from read)
-table_inside expected (Ok rows) returned = rw returned refl
-table_inside expected (Err table.NoMemory) returned = tt
-table_inside expected (Err (table.At row why)) returned = rw returned refl
+    → IsOfContents Offsets (λ _. Unit {0}) (table_from expected) (table_from read)
+table_inside expected (Ok rows) returned = record { same = rw returned refl; valid = tt; read = refl; fault = tt }
+table_inside expected (Err table.NoMemory) returned = record { same = tt; valid = tt; read = refl; fault = λ slot is. cc }
+table_inside expected (Err (table.At row why)) returned = record { same = rw returned refl; valid = tt; read = refl; fault = λ slot is. cc }
 
-pub zone_inside : (expected read : Result TheZone ZoneFault) → EqualsUnlessNoMemory zone_is_out_of_memory expected read
-    → EqualsUnlessNoMemory is_out_of_memory (zone_from expected) (zone_from read)
-zone_inside expected (Ok zone) returned = rw returned refl
-zone_inside expected (Err zones.NoMemory) returned = tt
-zone_inside expected (Err zones.BadZone) returned = rw returned refl
+pub zone_inside : (expected read : Result TheZone ZoneFault) → EqualsUnlessNoMemory zone_is_out_of_memory expected read → IfOk read IsZone
+    → IsOfContents Zone IsZone (zone_from expected) (zone_from read)
+zone_inside expected (Ok zone) returned valid = record { same = rw returned refl; valid = valid; read = refl; fault = tt }
+zone_inside expected (Err zones.NoMemory) returned valid = record { same = tt; valid = tt; read = refl; fault = λ slot is. cc }
+zone_inside expected (Err zones.BadZone) returned valid = record { same = rw returned refl; valid = tt; read = refl; fault = λ slot is. cc }
 
 faulty_inside : {A : Type 0} (firm : Type 0) (out_of_memory : Bool) (step : Result A Fault) (fault : Fault)
     → Excused out_of_memory step fault → Excuses (cond out_of_memory memory given) firm (faulty step) (Faulty fault)

@@ -1,15 +1,15 @@
 -- The openings of a request's files, and the contents that they show (this project).
-use Rattle.std.specs.Prelude.{◌≡◌, ◌+◌, ℕ, Bool, IsTrue, IfSome, List, [], ◌∷◌, ◌++◌, length, map, Option, Some, None, Result, Ok, Err, OnOk, slice_get}
+use Rattle.std.specs.Prelude.{◌≡◌, ◌+◌, ℕ, Bool, IsTrue, IfSome, List, [], ◌∷◌, ◌++◌, length, map, Option, Some, None, Result, Ok, Err, IfOk, IfErr, OnOk, slice_get}
 use Rattle.decimal_text.specs.Expected.{Meets}
 use Rattle.question.specs.declared.question.Question.{Question}
-use Rattle.tide_edge.specs.FileStates.{Folder, Opening, Openings, as_list, openings_of}
-use Rattle.tide_edge.specs.Whole.{Shows, as_came}
+use Rattle.tide_edge.specs.FileStates.{FilesState, Folder, Opening, Openings, as_list, openings_of}
+use Rattle.tide_edge.specs.Whole.{ReadWithin, Shows, as_came}
 use Rattle.tide_fault.specs.declared.slot.Slot.{Slot}
 use Rattle.tide_fault.specs.declared.slot.Slot.TheVariants as slots
 use Rattle.named_files.specs.declared.materials.Materials.{Materials}
 use Rattle.named_files.specs.declared.run_fault.RunFault.{RunFault}
-use Rattle.named_files.specs.RunFaults.{file_of, source_of}
-use Rattle.named_files.specs.Readings.{Folders, files_in, limit_of, zone_file}
+use Rattle.named_files.specs.RunFaults.{IsOf, file_of, reading_failed, source_of}
+use Rattle.named_files.specs.Readings.{Folders, allowed_for, files_in, limit_of, zone_file}
 
 -- ---- The names, in the order of reading
 
@@ -84,6 +84,18 @@ pub record Opened {T : Type 0} (slot : Slot) (name : Option (List ℕ)) (expecte
   pub names : as_list name ≡ map (λ o. o.name) open_log ++ unopened
   pub whole : OnOk result (unopened ≡ [])
   pub answer : (firm : Bool) (folder : Folder) → IsShown slot firm open_log folder → Meets source_of (IsTrue firm) (expected folder) result
+
+-- between the states `before` and `after` of the files, the file called `name`, of the kind `slot`, was
+-- read within the limit for it, or no file if there is no name; the result is the expected one as in
+-- `Opened`, and exactly that if there is no name; a value is valid (`IsValid`), and if the file is the
+-- reason for an error, the error says that it is of this kind
+pub record ReadsFile {T : Type 0} (slot : Slot) (name : Option (List ℕ)) (expected : Folder → Result T RunFault)
+    (IsValid : T → Type 0) (before after : FilesState) (result : Result T RunFault) : Type 0 where
+  pub opened : Opened slot name expected before.open_log after.open_log result
+  pub unnamed : name ≡ None → result ≡ expected (λ _. None)
+  pub valid : IfOk result IsValid
+  pub read : ReadWithin (allowed_for slot name) (reading_failed result) before after
+  pub fault : IfErr result (IsOf slot)
 
 -- between the states `before` and `after` of the log of opened files, files were opened in the
 -- order of the names that `wanted` gives, each once, and none after the file that is the reason why

@@ -1,14 +1,13 @@
 //! The files of a request, read.
 
-ghost use Rattle.std.specs.Prelude.{◌≡◌, ◌≤◌, false, [], length, Some, None, Ok, IfOk, IfErr};
+ghost use Rattle.std.specs.Prelude.{◌≡◌, ◌≤◌, length, Some, IfOk, IfErr};
 ghost use Rattle.harmonics_book.specs.Books.{IsBook};
 ghost use Rattle.question.specs.Asked.{IsZoneWord};
 ghost use Rattle.zone_time.specs.Zones.{IsZone};
-ghost use Rattle.tide_edge.specs.Whole.{ReadWithin, one_file};
-ghost use Rattle.named_files.specs.RunFaults.{IsOf, file_of, is_unread, reading_failed};
-ghost use Rattle.named_files.specs.Opened.{AreOpened, Opened};
+ghost use Rattle.tide_edge.specs.Whole.{ReadWithin};
+ghost use Rattle.named_files.specs.RunFaults.{file_of, is_unread, reading_failed};
+ghost use Rattle.named_files.specs.Opened.{AreOpened, ReadsFile};
 ghost use Rattle.named_files.specs.Readings.{
-  allowed_for,
   allowed_to,
   files_allowed,
   zone_file,
@@ -78,11 +77,8 @@ pub fn read_files<F: Files>(
 /// [`RunFault::Unread`] if the file can't be opened or read, and [`RunFault::Faulty`] if it is too long
 /// or has a bad line, or if memory runs out.
 pub fn read_book<F: Files>(alloc: Global, files: &mut F, name: &Text) -> Result<Book, RunFault>
-    ensures opened { Opened Slot.File (Some name.now) (λ folder. book_named folder name.now)
-        (F.state files.old).open_log (F.state files.new).open_log result }
-    ensures valid { IfOk result IsBook }
-    ensures read { ReadWithin (one_file (limit_of Slot.File)) (reading_failed result) (F.state files.old) (F.state files.new) }
-    ensures fault { IfErr result (IsOf Slot.File) }
+    ensures { ReadsFile Slot.File (Some name.now) (λ folder. book_named folder name.now) IsBook
+        (F.state files.old) (F.state files.new) result }
 {
     match load_book(alloc, files, name, limit_of(Slot::File)) {
         Ok(book) => Ok(book),
@@ -101,11 +97,8 @@ pub fn read_table<F: Files>(
     files: &mut F,
     name: &Option<Text>,
 ) -> Result<OffsetTable, RunFault>
-    ensures opened { Opened Slot.Offsets name.now (λ folder. table_named folder name.now)
-        (F.state files.old).open_log (F.state files.new).open_log result }
-    ensures unnamed { name.now ≡ None → result ≡ Ok [] }
-    ensures read { ReadWithin (allowed_for Slot.Offsets name.now) (reading_failed result) (F.state files.old) (F.state files.new) }
-    ensures fault { IfErr result (IsOf Slot.Offsets) }
+    ensures { ReadsFile Slot.Offsets name.now (λ folder. table_named folder name.now) (λ _. Unit {0})
+        (F.state files.old) (F.state files.new) result }
 {
     match name {
         Some(name) => {
@@ -118,9 +111,7 @@ pub fn read_table<F: Files>(
 
 /// Returns the table that was read, or the reason why there is none. It doesn't allocate.
 fn table_from(read: Result<OffsetTable, OffsetFault>) -> Result<OffsetTable, RunFault>
-    ensures exact { result ≡ table_from read }
-    ensures read { reading_failed result ≡ false }
-    ensures fault { IfErr result (IsOf Slot.Offsets) }
+    ensures { result ≡ table_from read }
 {
     match read {
         Ok(table) => Ok(table),
@@ -135,12 +126,8 @@ fn read_zone_named<F: Files>(
     word: &ZoneWord,
 ) -> Result<Zone, RunFault>
     requires { IsZoneWord word.now }
-    ensures opened { Opened Slot.Zone (zone_file word.now) (λ folder. zone_named folder word.now)
-        (F.state files.old).open_log (F.state files.new).open_log result }
-    ensures unnamed { zone_file word.now ≡ None → result ≡ zone_named (λ _. None) word.now }
-    ensures valid { IfOk result IsZone }
-    ensures read { ReadWithin (allowed_for Slot.Zone (zone_file word.now)) (reading_failed result) (F.state files.old) (F.state files.new) }
-    ensures fault { IfErr result (IsOf Slot.Zone) }
+    ensures { ReadsFile Slot.Zone (zone_file word.now) (λ folder. zone_named folder word.now) IsZone
+        (F.state files.old) (F.state files.new) result }
 {
     match word {
         ZoneWord::Utc => Ok(Zone::Utc),
@@ -154,11 +141,7 @@ fn read_zone_named<F: Files>(
 
 /// Returns the zone that was read, or the reason why there is none. It doesn't allocate.
 fn zone_from(read: Result<Zone, ZoneFault>) -> Result<Zone, RunFault>
-    requires { IfOk read IsZone }
-    ensures exact { result ≡ zone_from read }
-    ensures valid { IfOk result IsZone }
-    ensures read { reading_failed result ≡ false }
-    ensures fault { IfErr result (IsOf Slot.Zone) }
+    ensures { result ≡ zone_from read }
 {
     match read {
         Ok(zone) => Ok(zone),
@@ -173,12 +156,8 @@ fn read_certificate<F: Files>(
     files: &mut F,
     name: &Option<Text>,
 ) -> Result<Bytes, RunFault>
-    ensures opened { Opened Slot.Certificate name.now (λ folder. certificate_named folder name.now)
-        (F.state files.old).open_log (F.state files.new).open_log result }
-    ensures unnamed { name.now ≡ None → result ≡ Ok [] }
-    ensures within { IfOk result (λ bytes. length bytes ≤ MOST_BYTES) }
-    ensures read { ReadWithin (allowed_for Slot.Certificate name.now) (reading_failed result) (F.state files.old) (F.state files.new) }
-    ensures fault { IfErr result (IsOf Slot.Certificate) }
+    ensures { ReadsFile Slot.Certificate name.now (λ folder. certificate_named folder name.now) (λ bytes. length bytes ≤ MOST_BYTES)
+        (F.state files.old) (F.state files.new) result }
 {
     match name {
         Some(name) => read_file(alloc, files, name, Slot::Certificate),
@@ -193,10 +172,8 @@ fn read_file<F: Files>(
     name: &Text,
     slot: Slot,
 ) -> Result<Bytes, RunFault>
-    ensures opened { Opened slot (Some name.now) (λ folder. bytes_of slot (folder name.now)) (F.state files.old).open_log (F.state files.new).open_log result }
-    ensures within { IfOk result (λ bytes. length bytes ≤ limit_of slot) }
-    ensures read { ReadWithin (one_file (limit_of slot)) (reading_failed result) (F.state files.old) (F.state files.new) }
-    ensures fault { IfErr result (IsOf slot) }
+    ensures { ReadsFile slot (Some name.now) (λ folder. bytes_of slot (folder name.now)) (λ bytes. length bytes ≤ limit_of slot)
+        (F.state files.old) (F.state files.new) result }
 {
     match read_all(alloc, files, name, limit_of(slot)) {
         Ok(bytes) => Ok(bytes),

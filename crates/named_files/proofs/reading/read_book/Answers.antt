@@ -1,25 +1,29 @@
-use Rattle.std.proofs.Common.{Ok, Err}
+use Rattle.std.proofs.Common.{Ok, Err, arith}
 use Rattle.named_files.proofs.OpenedLemmas.{opened_book}
 use Rattle.named_files.proofs.ReadingLemmas.{named_from}
 use Rattle.named_files.proofs.reading.read_book.Goals as goal
 
-pub returns-in-Ok-clause-opened : goal.returns-in-Ok-clause-opened
+pub returns-in-Ok : goal.returns-in-Ok
 unfolding named_from
-returns-in-Ok-clause-opened g c =
-    opened_book
-    c.args.name.now
-    (g.F.Files.state c.args.files.now).open_log
-    (g.F.Files.state c.load_book.new.files).open_log
-    (Ok c.in-Ok.book)
-    (rw c.limit_of.ensures at c.in-Ok.ensures.came)
+returns-in-Ok g c =
+    let read = rw c.limit_of.ensures at c.in-Ok.ensures in
+    record {
+      opened = opened_book c.args.name.now _ _ (Ok c.in-Ok.book) read.came;
+      unnamed = λ none. cc;
+      valid = read.valid;
+      read = read.read;
+      fault = tt;
+    }
 
-pub returns-in-Err-clause-opened : goal.returns-in-Err-clause-opened
+pub returns-in-Err : goal.returns-in-Err
 unfolding named_from
-returns-in-Err-clause-opened g c =
+returns-in-Err g c =
+    let read = rw c.limit_of.ensures at c.in-Err.ensures in
     rw c.from.ensures
-    (opened_book
-    c.args.name.now
-    (g.F.Files.state c.args.files.now).open_log
-    (g.F.Files.state c.load_book.new.files).open_log
-    (Err c.in-Err.fault)
-    (rw c.limit_of.ensures at c.in-Err.ensures.came))
+    (record {
+      opened = opened_book c.args.name.now _ _ (Err c.in-Err.fault) read.came;
+      unnamed = λ none. cc;
+      valid = tt;
+      read = grind arith;
+      fault = grind arith;
+    })

@@ -1,24 +1,26 @@
-use Rattle.std.proofs.Common.{Ok, Err}
+use Rattle.std.proofs.Common.{Ok, Err, rules}
 use Rattle.named_files.proofs.OpenedLemmas.{opened_bytes}
 use Rattle.named_files.proofs.reading.read_file.Goals as goal
 
-pub returns-in-Ok-clause-opened : goal.returns-in-Ok-clause-opened
-returns-in-Ok-clause-opened g c =
-    opened_bytes
-    c.args.slot
-    c.args.name.now
-    (g.F.Files.state c.args.files.now).open_log
-    (g.F.Files.state c.read_all.new.files).open_log
-    (Ok c.in-Ok.bytes)
-    (rw c.limit_of.ensures at c.in-Ok.ensures.came)
+pub returns-in-Ok : goal.returns-in-Ok
+returns-in-Ok g c =
+    let read = rw c.limit_of.ensures at c.in-Ok.ensures in
+    record {
+      opened = opened_bytes c.args.slot c.args.name.now _ _ (Ok c.in-Ok.bytes) read.came;
+      unnamed = λ none. cc;
+      valid = read.within;
+      read = read.read;
+      fault = tt;
+    }
 
-pub returns-in-Err-clause-opened : goal.returns-in-Err-clause-opened
-returns-in-Err-clause-opened g c =
+pub returns-in-Err : goal.returns-in-Err
+returns-in-Err g c =
+    let read = rw c.limit_of.ensures at c.in-Err.ensures in
     rw c.fault_of_reading.ensures
-    (opened_bytes
-    c.args.slot
-    c.args.name.now
-    (g.F.Files.state c.args.files.now).open_log
-    (g.F.Files.state c.read_all.new.files).open_log
-    (Err c.in-Err.fault)
-    (rw c.limit_of.ensures at c.in-Err.ensures.came))
+    (record {
+      opened = opened_bytes c.args.slot c.args.name.now _ _ (Err c.in-Err.fault) read.came;
+      unnamed = λ none. cc;
+      valid = tt;
+      read = search rules;
+      fault = search rules;
+    })
