@@ -3,7 +3,7 @@ use Rattle.std.specs.Prelude.{◌≡◌, ℕ, Bool, true, IsTrue, List, [], ◌�
 use Rattle.std.proofs.Common.{sym, ◌∙◌}
 use mathlib.Core.Logic.{∥∥₁_elim}
 use Rattle.std.proofs.Props.{props}
-use Rattle.tide_edge.specs.Doors.{Connection, Connections, DoorState, connections_of, unread_of}
+use Rattle.tide_edge.specs.Doors.{Connection, Connections, DoorState, connections_of, replies_of, unread_of}
 use Rattle.tide_edge.specs.DoorLaws.{AreOfRequests, IsOfRequest, IsOfRequests}
 use Rattle.tide_edge.specs.Memory.{HeldDoor, door_state}
 
@@ -44,3 +44,7 @@ one_law d = hlevel (props, are_prop d.door_contents.keeps_pieces d.door_contents
 
 pub lawful_by : (contents : HeldDoor) → ∥ IsTiedDoor contents ∥₁ → IsOfRequests (door_state contents)
 lawful_by contents tied = ∥∥₁_elim tied (one_law (door_state contents)) (lawful_of contents)
+
+-- The replies that a door in memory holds are the bytes that its connections sent.
+pub replies_are_sent : (contents : HeldDoor) → ∥ IsTiedDoor contents ∥₁ → contents.replies ≡ replies_of (door_state contents)
+replies_are_sent contents tied = ∥∥₁_elim tied (hlevel props) (λ t. t.0.sent)

@@ -21,7 +21,8 @@ pub struct MemoryDoor {
 
 impl MemoryDoor {
     ghost use Rattle.tide_edge.specs.Adapters.{held_by};
-    ghost use Rattle.tide_edge.specs.Memory.{held_door};
+    ghost use Rattle.tide_edge.specs.Doors.{replies_of};
+    ghost use Rattle.tide_edge.specs.Memory.{door_state, held_door};
 
     /// Returns a door at which `requests` are pending, each as the pieces (parts) in which it
     /// arrives; no piece is empty. All replies together have at most `capacity` bytes. The calls
@@ -49,8 +50,8 @@ impl MemoryDoor {
     /// Returns the bytes written until now as the reply of connection `i`, counted from 0, or
     /// `None` if at most `i` connections were accepted.
     pub fn reply(&self, i: u64) -> Option<&[u8]>
-        ensures { MatchOption result (length (held_by self.now).replies ≤ i)
-            (λ reply. slice_get (held_by self.now).replies i ≡ Some reply.now) }
+        ensures { MatchOption result (length (replies_of (door_state (held_by self.now))) ≤ i)
+            (λ reply. slice_get (replies_of (door_state (held_by self.now))) i ≡ Some reply.now) }
     {
         self.queue.reply(i)
     }
