@@ -216,25 +216,9 @@ pub all_named : {T : Type 0} (slot : Slot) (name : Option (List ℕ)) (expected 
 all_named slot name expected before after value o =
     o.names ∙ ap (λ left. map (λ it. it.name) o.open_log ++ left) o.whole ∙ append-nil (map (λ it. it.name) o.open_log)
 
-length-names : (open_log : List Opening) → length (map (λ o. o.name) open_log) ≡ length open_log
+pub length-names : (open_log : List Opening) → length (map (λ o. o.name) open_log) ≡ length open_log
 length-names [] = refl
 length-names (o ∷ open_log) = ap suc (length-names open_log)
-
-pub as_many : {T : Type 0} (slot : Slot) (name : Option (List ℕ)) (expected : Folder → Result T RunFault) (before after : Openings)
-    (value : T) (o : Opened slot name expected before after (Ok value)) → length (as_list name) ≡ length o.open_log
-as_many slot name expected before after value o = ap length (all_named slot name expected before after value o) ∙ length-names o.open_log
-
--- the last of the files that were opened
-pub last_all : {T : Type 0} (slot : Slot) (name : Option (List ℕ)) (expected : Folder → Result T RunFault) (before after : Openings)
-    (result : Result T RunFault) (o : Opened slot name expected before after result)
-    → openings_of after ≡ openings_of before ++ (o.open_log ++ [])
-last_all slot name expected before after result o = o.all ∙ ap (λ it. openings_of before ++ it) (sym (append-nil o.open_log))
-
-pub last_names : {T : Type 0} (slot : Slot) (name : Option (List ℕ)) (expected : Folder → Result T RunFault) (before after : Openings)
-    (result : Result T RunFault) (o : Opened slot name expected before after result)
-    → as_list name ≡ map (λ it. it.name) (o.open_log ++ []) ++ o.unopened
-last_names slot name expected before after result o =
-    o.names ∙ ap (λ it. map (λ it. it.name) it ++ o.unopened) (sym (append-nil o.open_log))
 
 -- ---- The names up to a fault
 
@@ -253,54 +237,6 @@ pub stops_at : (name : List ℕ) (question : Question) (slot : Slot) (said : Opt
 stops_at name question slot None is = up_to name question slot
 stops_at name question slot (Some other) is =
     ([], ap (λ it. names_to name question (Some it)) (is other refl) ∙ sym (append-nil (names_to name question (Some slot))))
-
--- the files that were opened up to one that is the reason
-pub stopped : (question : Question) (name : List ℕ) (slot : Slot) (before after : Openings) (none : RunFault) (open_log : List Opening)
-    (left : List (List ℕ)) → IsOf slot none → openings_of after ≡ openings_of before ++ open_log
-    → names_to name question (Some slot) ≡ map (λ o. o.name) open_log ++ left
-    → ((firm : Bool) (folders : Folders) → AreShown question firm open_log folders
-    → Meets {T = Materials} source_of (IsTrue firm) (files_in folders question name) (Err none))
-    → (result : Result Materials RunFault) → IsErrAnd result (λ e. e ≡ none) → AreOpened question name before after result
-stopped question name slot before after none open_log left of_slot all names answer (Ok read) is = absurd is
-stopped question name slot before after none open_log left of_slot all names answer (Err it) is =
-    let to = stops_at name question slot (file_of none) of_slot in
-    rw is
-    (record {
-      open_log = open_log;
-      unopened = left ++ to.0;
-      all = all;
-      names = to.1 ∙ ap (λ n. n ++ to.0) names ∙ append_assoc (map (λ o. o.name) open_log) left to.0;
-      whole = tt;
-      answer = answer;
-    })
-
--- ---- The contents of each file, from the openings
-
-module _ (firm : Bool) (folders : Folders) where
-  pub shown_first : (p more : List Opening)
-      → IfSome (slice_get (p ++ more) 0) (λ o. Shows (limit_of File) firm o (folders File o.name)) → IsShown File firm p (folders File)
-  shown_first p more shows = shown_at File firm (folders File) [] p more 0 refl shows
-
-  pub shown_second : (p q more : List Opening) → 1 ≡ length p
-      → IfSome (slice_get (p ++ (q ++ more)) 1) (λ o. Shows (limit_of Offsets) firm o (folders Offsets o.name))
-      → IsShown Offsets firm q (folders Offsets)
-  shown_second p q more one shows = shown_at Offsets firm (folders Offsets) p q more 1 one shows
-
-  pub shown_third : (p q r more : List Opening) (count : ℕ) → 1 ≡ length p → count ≡ length q
-      → IfSome (slice_get (p ++ (q ++ (r ++ more))) (1 + count)) (λ o. Shows (limit_of Zone) firm o (folders Zone o.name))
-      → IsShown Zone firm r (folders Zone)
-  shown_third p q r more count one counted shows =
-      shown_at Zone firm (folders Zone) (p ++ q) r more (1 + count) (rw (one, counted) (sym (length-append p q)))
-      (rw (append_assoc p q (r ++ more)) shows)
-
-  pub shown_fourth : (p q r s : List Opening) (count also : ℕ) → 1 ≡ length p → count ≡ length q → also ≡ length r
-      → IfSome (slice_get (p ++ (q ++ (r ++ (s ++ [])))) (1 + (count + also)))
-      (λ o. Shows (limit_of Certificate) firm o (folders Certificate o.name))
-      → IsShown Certificate firm s (folders Certificate)
-  shown_fourth p q r s count also one counted too shows =
-      shown_at Certificate firm (folders Certificate) (p ++ (q ++ r)) s [] (1 + (count + also))
-      (rw (one, counted, too) (sym (length-append p (q ++ r) ∙ ap (λ n. length p + n) (length-append q r))))
-      (rw (append_assoc p (q ++ r) (s ++ []), append_assoc q r (s ++ [])) shows)
 
 -- ---- The contents that agree with what was read
 

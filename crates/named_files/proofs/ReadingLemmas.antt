@@ -178,7 +178,7 @@ excuses_book firm folder name (load.Book (form.At line why)) excused =
 -- ---- The bytes that were read before a fault
 
 -- reading within an allowance is within any larger one
-wider : (a b : Allowance) (failed : Bool) (before after : FilesState) → a.files ≤ b.files → a.bytes ≤ b.bytes
+pub wider : (a b : Allowance) (failed : Bool) (before after : FilesState) → a.files ≤ b.files → a.bytes ≤ b.bytes
     → ReadWithin a failed before after → ReadWithin b failed before after
 wider a b failed before after files bytes read = record {
   open_log = read.open_log;
@@ -191,7 +191,7 @@ wider a b failed before after files bytes read = record {
 }
 
 -- what is read up to a file is within what is read of all
-within_all : (question : Question) (said : Option Slot) (failed : Bool) (before after : FilesState)
+pub within_all : (question : Question) (said : Option Slot) (failed : Bool) (before after : FilesState)
     → ReadWithin (allowed_to question said) failed before after → ReadWithin (files_allowed question) failed before after
 within_all question None failed before after read = read
 within_all question (Some File) failed before after read =
@@ -202,57 +202,10 @@ within_all question (Some Zone) failed before after read =
     wider (allowed_to question (Some Zone)) (files_allowed question) failed before after (omega arith) (omega arith) read
 within_all question (Some Certificate) failed before after read = read
 
--- each file is read after the ones before it
-pub to_table : (question : Question) (failed : Bool) (before between after : FilesState)
-    → ReadWithin (one_file (limit_of File)) false before between
-    → ReadWithin (allowed_for Offsets question.offsets) failed between after
-    → ReadWithin (allowed_to question (Some Offsets)) failed before after
-to_table question failed before between after book table =
-    read_then (one_file (limit_of File)) (allowed_for Offsets question.offsets) failed before between after book table
-
-pub to_zone : (question : Question) (failed : Bool) (before between beyond after : FilesState)
-    → ReadWithin (one_file (limit_of File)) false before between
-    → ReadWithin (allowed_for Offsets question.offsets) false between beyond
-    → ReadWithin (allowed_for Zone (zone_file question.zone)) failed beyond after
-    → ReadWithin (allowed_to question (Some Zone)) failed before after
-to_zone question failed before between beyond after book table zone =
-    read_then (one_file (limit_of File)) (both (allowed_for Offsets question.offsets) (allowed_for Zone (zone_file question.zone)))
-    failed before between after book
-    (read_then (allowed_for Offsets question.offsets) (allowed_for Zone (zone_file question.zone)) failed between beyond after table zone)
-
-pub to_certificate : (question : Question) (failed : Bool) (before between beyond later after : FilesState)
-    → ReadWithin (one_file (limit_of File)) false before between
-    → ReadWithin (allowed_for Offsets question.offsets) false between beyond
-    → ReadWithin (allowed_for Zone (zone_file question.zone)) false beyond later
-    → ReadWithin (allowed_for Certificate question.certificate) failed later after
-    → ReadWithin (files_allowed question) failed before after
-to_certificate question failed before between beyond later after book table zone certificate =
-    let last = both (allowed_for Zone (zone_file question.zone)) (allowed_for Certificate question.certificate) in
-    read_then (one_file (limit_of File)) (both (allowed_for Offsets question.offsets) last) failed before between after book
-    (read_then (allowed_for Offsets question.offsets) last failed between beyond after table
-    (read_then (allowed_for Zone (zone_file question.zone)) (allowed_for Certificate question.certificate) failed beyond later after
-    zone certificate))
-
 -- the file that is the reason, if one is
-said_at : (question : Question) (slot : Slot) (said : Option Slot) (failed : Bool) (before after : FilesState)
+pub said_at : (question : Question) (slot : Slot) (said : Option Slot) (failed : Bool) (before after : FilesState)
     → ForSome said (λ other. other ≡ slot) → ReadWithin (allowed_to question (Some slot)) failed before after
     → ReadWithin (allowed_to question said) failed before after
 said_at question slot None failed before after is read = within_all question (Some slot) failed before after read
 said_at question slot (Some other) failed before after is read =
     subst (λ (s : Slot). ReadWithin (allowed_to question (Some s)) failed before after) (sym (is other refl)) read
-
--- the returned fault is the fault of the step that read the file
-pub last_at : {A : Type 0} (question : Question) (slot : Slot) (result : Result A RunFault) (none : RunFault) (before after : FilesState)
-    → IsErrAnd result (λ e. e ≡ none) → IsOf slot none → ReadWithin (allowed_to question (Some slot)) (is_unread none) before after
-    → IfErr result (λ e. ReadWithin (allowed_to question (file_of e)) (is_unread e) before after)
-last_at question slot (Ok value) none before after is of_slot read = absurd is
-last_at question slot (Err e) none before after is of_slot read =
-    subst (λ (x : RunFault). ReadWithin (allowed_to question (file_of x)) (is_unread x) before after) (sym is)
-    (said_at question slot (file_of none) (is_unread none) before after of_slot read)
-
--- what was read up to the reason is within what is read of all
-pub read_of_last : {A : Type 0} (question : Question) (result : Result A RunFault) (none : RunFault) (before after : FilesState)
-    → IsErrAnd result (λ e. e ≡ none) → IfErr result (λ e. ReadWithin (allowed_to question (file_of e)) (is_unread e) before after)
-    → ReadWithin (files_allowed question) (reading_failed result) before after
-read_of_last question (Ok value) none before after is last = absurd is
-read_of_last question (Err e) none before after is last = within_all question (file_of e) (is_unread e) before after last

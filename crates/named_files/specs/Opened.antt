@@ -8,8 +8,9 @@ use Rattle.tide_fault.specs.declared.slot.Slot.{Slot}
 use Rattle.tide_fault.specs.declared.slot.Slot.TheVariants as slots
 use Rattle.named_files.specs.declared.materials.Materials.{Materials}
 use Rattle.named_files.specs.declared.run_fault.RunFault.{RunFault}
-use Rattle.named_files.specs.RunFaults.{IsOf, file_of, reading_failed, source_of}
-use Rattle.named_files.specs.Readings.{Folders, allowed_for, files_in, limit_of, zone_file}
+use Rattle.named_files.specs.RunFaults.{IsOf, file_of, is_unread, reading_failed, source_of}
+use Rattle.named_files.specs.Readings.{Folders, allowed_for, allowed_to, files_allowed, files_in, limit_of, zone_file}
+use Rattle.named_files.specs.Workings.Materials.{AreMaterials}
 
 -- ---- The names, in the order of reading
 
@@ -122,3 +123,13 @@ pub record AreOpened (question : Question) (name : List ℕ) (before after : Ope
   pub whole : OnOk result (unopened ≡ [])
   pub answer : (firm : Bool) (folders : Folders) → AreShown question firm open_log folders
       → Meets source_of (IsTrue firm) (files_in folders question name) result
+
+-- between the states `before` and `after` of the files, the files of the request `question`, whose
+-- harmonics file is called `name`, were opened as in `AreOpened`, and read within the limit for all of
+-- them; if there is no answer, within the limit up to the file that is the reason. Contents that were
+-- read are valid
+pub record ReadsFiles (question : Question) (name : List ℕ) (before after : FilesState) (result : Result Materials RunFault) : Type 0 where
+  pub opened : AreOpened question name before.open_log after.open_log result
+  pub valid : IfOk result AreMaterials
+  pub read : ReadWithin (files_allowed question) (reading_failed result) before after
+  pub last : IfErr result (λ none. ReadWithin (allowed_to question (file_of none)) (is_unread none) before after)

@@ -1,15 +1,11 @@
 //! The files of a request, read.
 
-ghost use Rattle.std.specs.Prelude.{◌≡◌, ◌≤◌, length, Some, IfOk, IfErr};
+ghost use Rattle.std.specs.Prelude.{◌≡◌, ◌≤◌, length, Some};
 ghost use Rattle.harmonics_book.specs.Books.{IsBook};
 ghost use Rattle.question.specs.Asked.{IsZoneWord};
 ghost use Rattle.zone_time.specs.Zones.{IsZone};
-ghost use Rattle.tide_edge.specs.Whole.{ReadWithin};
-ghost use Rattle.named_files.specs.RunFaults.{file_of, is_unread, reading_failed};
-ghost use Rattle.named_files.specs.Opened.{AreOpened, ReadsFile};
+ghost use Rattle.named_files.specs.Opened.{ReadsFile, ReadsFiles};
 ghost use Rattle.named_files.specs.Readings.{
-  allowed_to,
-  files_allowed,
   zone_file,
   limit_of,
   fault_of_reading,
@@ -21,7 +17,6 @@ ghost use Rattle.named_files.specs.Readings.{
   zone_named,
   certificate_named,
 };
-ghost use Rattle.named_files.specs.Workings.Materials.{AreMaterials};
 ghost use Rattle.decimal_text.specs.declared.limits.TheConstants.{MOST_BYTES};
 
 use crate::loading::{LoadFault, load_book};
@@ -51,11 +46,7 @@ pub fn read_files<F: Files>(
     name: &Text,
 ) -> Result<Materials, RunFault>
     requires zone { IsZoneWord question.now.zone }
-    ensures opened { AreOpened question.now name.now (F.state files.old).open_log (F.state files.new).open_log result }
-    ensures valid { IfOk result AreMaterials }
-    ensures read { ReadWithin (files_allowed question.now) (reading_failed result) (F.state files.old) (F.state files.new) }
-    ensures last { IfErr result (λ none.
-        ReadWithin (allowed_to question.now (file_of none)) (is_unread none) (F.state files.old) (F.state files.new)) }
+    ensures { ReadsFiles question.now name.now (F.state files.old) (F.state files.new) result }
 {
     let question = question.get();
     let book = read_book(alloc, files, name)?;

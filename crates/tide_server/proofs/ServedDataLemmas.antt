@@ -1,5 +1,5 @@
 -- The data of a server by what it opened.
-use Rattle.std.proofs.Common.{◌≡◌, ◌∙◌, ap, ℕ, List, [], ◌∷◌, ◌++◌, map, append-nil, append_assoc, Option, Some, None, Result, Ok, Err, inl, refl, sym, subst}
+use Rattle.std.proofs.Common.{arith, ◌≡◌, ◌∙◌, ap, ℕ, List, [], ◌∷◌, ◌++◌, map, append-nil, append_assoc, Option, Some, None, Result, Ok, Err, inl, refl, sym, subst}
 use Rattle.std.specs.Bool.{IsTrue}
 use Rattle.std.specs.Prelude.{Bool, true, All}
 use Rattle.tide_edge.specs.StoreLaws.{IsLawful, IsOfStore}
@@ -17,20 +17,22 @@ use Rattle.tide_fault.specs.declared.status.Status.{Status}
 use Rattle.tide_fault.specs.Faults.{is_out_of_memory as fault_is_out_of_memory}
 use Rattle.named_files.specs.declared.run_fault.RunFault.{RunFault}
 use Rattle.named_files.specs.declared.run_fault.RunFault.TheVariants.{Faulty}
-use Rattle.named_files.specs.RunFaults.{IsOf, file_of, source_of, faulty}
-use Rattle.named_files.specs.Opened.{AreShown, AreShownFor, IsResultOf, Opened, failing_file}
-use Rattle.named_files.specs.Readings.{Folders, book_named, table_named}
-use Rattle.named_files.proofs.OpenedLemmas.{all_named, as_many, last_all, last_names, names_on, shown_first, shown_second, shows_itself, shows_own}
-use Rattle.named_files.proofs.RequestLemmas.{book_shown, table_shown}
+use Rattle.named_files.specs.RunFaults.{file_of, is_unread, source_of, faulty}
+use Rattle.named_files.specs.Opened.{AreShown, AreShownFor, IsResultOf, ReadsFile, failing_file}
+use Rattle.named_files.specs.Readings.{Folders, allowed_for, book_named, limit_of, table_named}
+use Rattle.named_files.proofs.OpenedLemmas.{shows_itself, shows_own}
+use Rattle.named_files.proofs.RequestLemmas.{ReadToFault, nothing_read, then_fault, then_file}
 use Rattle.std.proofs.lemmas.List.Elements.{All-tail}
-use Rattle.tide_edge.proofs.ReadingLemmas.{all_of_store, go_on}
-use Rattle.named_files.proofs.ReadingLemmas.{meets_at, faulty_excuses}
+use Rattle.tide_edge.proofs.ReadingLemmas.{all_of_store}
+use Rattle.tide_edge.specs.Whole.{Allowance, ReadWithin, both, one_file}
+use Rattle.harmonics_book.specs.Books.{IsBook}
+use Rattle.named_files.proofs.ReadingLemmas.{meets_at, faulty_excuses, wider as within_wider}
 use Rattle.named_files.proofs.SettledLemmas.{reported_settles}
 use Rattle.named_files.specs.Reporting.{Reports}
 use Rattle.tide_server.proofs.OpeningLemmas.{refused_for}
 use Rattle.tide_server.specs.declared.served_data.ServedData.{ServedData}
 use Rattle.tide_server.specs.Openings.{EndsAs, ServerStates, IsRefused, service_of, served_data_by, served_data_from, served_data_named, served_data_of}
-use Rattle.tide_server.specs.Shown.{EndsAsShown, folders_by, names_by, names_served, served_data_by_openings, served_data_names}
+use Rattle.tide_server.specs.Shown.{EndsAsShown, folders_by, names_by, names_served, ReadsServedData, served_data_by_openings, served_data_names}
 
 -- ---- The names up to a fault
 
@@ -46,89 +48,72 @@ after_table name question (Some other) is = ap (λ it. served_data_names name qu
 
 -- ---- The files, one after the other
 
-abbrev pub served_data_shown : Question → List ℕ → Folders → Result ServedData RunFault
-served_data_shown question name folders = served_data_named folders question name
-
-pub stopped_at_book : (question : Question) (name : List ℕ) (before after : Openings) (none : RunFault)
-    (result : Result ServedData RunFault)
-    → IsErrAnd result (λ e. e ≡ none) → IsOf File none → Opened File (Some name) (book_shown name) before after (Err none)
-    → IsResultOf (served_data_names name question) (AreShown question) (served_data_shown question name) before after result
-unfolding served_data_named
-stopped_at_book question name before after none (Ok served_data) is of_book book = absurd is
-stopped_at_book question name before after none (Err it) is of_book book =
-    let open_log = book.open_log ++ [] in
-    let to = after_book name question (file_of none) of_book in
+-- a file is the reason why there are no data
+stopped : {question : Question} {name : List ℕ} {names : List (List ℕ)} {allowed : Allowance} {Excusing : Bool → Folders → Type 0} {none : RunFault}
+    {before after : FilesState} (result : Result ServedData RunFault) → IsErrAnd result (λ e. e ≡ none)
+    → (more : List (List ℕ)) × (served_data_names name question (file_of none) ≡ names ++ more)
+    → (ReadWithin allowed (is_unread none) before after
+    → ReadWithin (both (one_file (limit_of File)) (allowed_for Offsets question.offsets)) (is_unread none) before after)
+    → ((firm : Bool) (folders : Folders) → Excusing firm folders
+    → Meets {T = ServedData} source_of (IsTrue firm) (served_data_named folders question name) (Err none))
+    → ReadToFault question names allowed Excusing none before after → ReadsServedData question name before after result
+stopped (Ok served_data) is to fits meets read = absurd is
+stopped (Err it) is to fits meets read =
     rw is
     (record {
-      open_log = open_log;
-      unopened = book.unopened ++ to.0;
-      all = last_all File (Some name) (book_shown name) before after (Err none) book;
-      names =
-          to.1
-          ∙ ap (λ n. n ++ to.0) (last_names File (Some name) (book_shown name) before after (Err none) book)
-          ∙ append_assoc (map (λ o. o.name) open_log) book.unopened to.0;
-      answer = λ firm folders shows.
-          meets_at (IsTrue firm) (book_named (folders File) name) _ (Err none) none refl
-          (book.answer firm (folders File) (shown_first firm folders book.open_log [] (shows File)));
+      shown = record {
+        open_log = read.open_log;
+        unopened = read.unopened ++ to.0;
+        all = read.all;
+        names = to.1 ∙ ap (λ n. n ++ to.0) read.named ∙ append_assoc (map (λ o. o.name) read.open_log) read.unopened to.0;
+        answer = λ firm folders shows. meets firm folders (read.excused firm folders shows);
+      };
+      read = fits read.read;
     })
 
-pub stopped_at_table : (question : Question) (name : List ℕ) (before between after : Openings) (read : Book) (none : RunFault)
-    (result : Result ServedData RunFault) → IsErrAnd result (λ e. e ≡ none) → IsOf Offsets none
-    → Opened File (Some name) (book_shown name) before between (Ok read)
-    → Opened Offsets question.offsets (table_shown question.offsets) between after (Err none)
-    → IsResultOf (served_data_names name question) (AreShown question) (served_data_shown question name) before after result
+pub stopped_at_book : {question : Question} {name : List ℕ} {before after : FilesState} {none : RunFault} (result : Result ServedData RunFault)
+    → IsErrAnd result (λ e. e ≡ none) → ReadsFile File (Some name) (λ folder. book_named folder name) IsBook before after (Err none)
+    → ReadsServedData question name before after result
 unfolding served_data_named
-stopped_at_table question name before between after read none (Ok served_data) is of_table book table = absurd is
-stopped_at_table question name before between after read none (Err it) is of_table book table =
-    let last = table.open_log ++ [] in
-    let open_log = book.open_log ++ last in
-    let one = as_many File (Some name) (book_shown name) before between read book in
-    rw is
-    (record {
-      open_log = open_log;
-      unopened = table.unopened;
-      all =
-          go_on before between after book.open_log last book.all
-          (last_all Offsets question.offsets (table_shown question.offsets) between after (Err none) table);
-      names =
-          after_table name question (file_of none) of_table
-          ∙ names_on book.open_log last (name ∷ []) (as_list question.offsets) table.unopened
-          (all_named File (Some name) (book_shown name) before between read book)
-          (last_names Offsets question.offsets (table_shown question.offsets) between after (Err none) table);
-      answer = λ firm folders shows.
-          rw (book.answer firm (folders File) (shown_first firm folders book.open_log last (shows File)))
-          (meets_at (IsTrue firm) (table_named (folders Offsets) question.offsets) _ (Err none) none refl
-          (table.answer firm (folders Offsets) (shown_second firm folders book.open_log table.open_log [] one (shows Offsets))));
-    })
+stopped_at_book {question = question} {name = name} {none = none} result is book =
+    stopped result is (after_book name question (file_of none) book.fault)
+    (λ read. within_wider _ _ _ _ _ (omega arith) (omega arith) read)
+    (λ firm folders excused. meets_at (IsTrue firm) (book_named (folders File) name) _ (Err none) none refl excused.1)
+    (then_fault nothing_read refl book)
 
-pub all_opened : (question : Question) (name : List ℕ) (before between after : Openings) (read : Book)
-    (rows : List TableRow) (served_data : ServedData)
-    → served_data ≡ record { book = read; table = rows; port = question.port }
-    → Opened File (Some name) (book_shown name) before between (Ok read)
-    → Opened Offsets question.offsets (table_shown question.offsets) between after (Ok rows)
-    → IsResultOf (served_data_names name question) (AreShown question) (served_data_shown question name) before after (Ok served_data)
+pub stopped_at_table : {question : Question} {name : List ℕ} {before between after : FilesState} {none : RunFault} {read : Book}
+    (result : Result ServedData RunFault) → IsErrAnd result (λ e. e ≡ none)
+    → ReadsFile File (Some name) (λ folder. book_named folder name) IsBook before between (Ok read)
+    → ReadsFile Offsets question.offsets (λ folder. table_named folder question.offsets) (λ _. Unit {0}) between after (Err none)
+    → ReadsServedData question name before after result
 unfolding served_data_named
-all_opened question name before between after read rows served_data is book table =
-    let last = table.open_log ++ [] in
-    let open_log = book.open_log ++ last in
-    let one = as_many File (Some name) (book_shown name) before between read book in
+stopped_at_table {question = question} {name = name} {none = none} result is book table =
+    stopped result is
+    ([], after_table name question (file_of none) table.fault ∙ sym (append-nil (name ∷ as_list question.offsets)))
+    (λ read. read)
+    (λ firm folders excused.
+    rw excused.0.1 (meets_at (IsTrue firm) (table_named (folders Offsets) question.offsets) _ (Err none) none refl excused.1))
+    (then_fault (then_file nothing_read refl book) refl table)
+
+pub all_read : {question : Question} {name : List ℕ} {before between after : FilesState} {read : Book} {rows : List TableRow}
+    {served_data : ServedData} → served_data ≡ record { book = read; table = rows; port = question.port }
+    → ReadsFile File (Some name) (λ folder. book_named folder name) IsBook before between (Ok read)
+    → ReadsFile Offsets question.offsets (λ folder. table_named folder question.offsets) (λ _. Unit {0}) between after (Ok rows)
+    → ReadsServedData question name before after (Ok served_data)
+unfolding served_data_named
+all_read {question = question} is book table =
+    let all = then_file {question = question} (then_file nothing_read refl book) refl table in
     record {
-      open_log = open_log;
-      unopened = table.unopened;
-      all =
-          go_on before between after book.open_log last book.all
-          (last_all Offsets question.offsets (table_shown question.offsets) between after (Ok rows) table);
-      names =
-          names_on book.open_log last (name ∷ []) (as_list question.offsets) table.unopened
-          (all_named File (Some name) (book_shown name) before between read book)
-          (last_names Offsets question.offsets (table_shown question.offsets) between after (Ok rows) table);
-      answer = λ firm folders shows.
-          rw (
-            is,
-            book.answer firm (folders File) (shown_first firm folders book.open_log last (shows File)),
-            table.answer firm (folders Offsets) (shown_second firm folders book.open_log table.open_log [] one (shows Offsets)),
-          )
-          refl;
+      shown = record {
+        open_log = all.open_log;
+        unopened = [];
+        all = all.all;
+        names = all.named ∙ sym (append-nil (map (λ o. o.name) all.open_log));
+        answer = λ firm folders shows.
+            let known = all.known [] firm folders (rw (append-nil all.open_log) shows) in
+            rw (is, known.0.1, known.1) refl;
+      };
+      read = all.read;
     }
 
 -- ---- The arguments
@@ -155,7 +140,7 @@ shown_unasked words before fault result is excused = record {
 pub shown_named : (words : List (List ℕ)) (question : Question) (name : List ℕ) (before after : Openings)
     (result : Result ServedData RunFault)
     → service_of words ≡ Ok question → question.file ≡ Some name
-    → IsResultOf (served_data_names name question) (AreShown question) (served_data_shown question name) before after result
+    → IsResultOf (served_data_names name question) (AreShown question) (λ folders. served_data_named folders question name) before after result
     → AreServedFrom words before after result
 unfolding served_data_from
 shown_named words question name before after result is named shown =

@@ -1,17 +1,19 @@
 -- The data of a server, from the files that it opened (this project).
 use Rattle.std.specs.Prelude.{◌≡◌, ℕ, true, IsTrue, List, [], ◌∷◌, ◌++◌, map, Option, Some, None, Result, Ok, Err}
 use Rattle.question.specs.declared.question.Question.{Question}
-use Rattle.tide_edge.specs.FileStates.{Opening, as_list, openings_of}
+use Rattle.tide_edge.specs.FileStates.{FilesState, Opening, as_list, openings_of}
+use Rattle.tide_edge.specs.Whole.{ReadWithin, both, one_file}
 use Rattle.tide_fault.specs.declared.fault.Fault.{Fault}
 use Rattle.tide_fault.specs.declared.slot.Slot.{Slot}
 use Rattle.tide_fault.specs.declared.slot.Slot.TheVariants as slots
 use Rattle.tide_fault.specs.declared.status.Status.{Status}
 use Rattle.tide_fault.specs.declared.status.Status.TheVariants.{NoMemory}
 use Rattle.named_files.specs.declared.run_fault.RunFault.{RunFault}
-use Rattle.named_files.specs.Opened.{failing_file, folders_shown}
-use Rattle.named_files.specs.Readings.{Folders}
+use Rattle.named_files.specs.Opened.{AreShown, IsResultOf, failing_file, folders_shown}
+use Rattle.named_files.specs.Readings.{Folders, allowed_for, limit_of}
+use Rattle.named_files.specs.RunFaults.{reading_failed}
 use Rattle.tide_server.specs.declared.served_data.ServedData.{ServedData}
-use Rattle.tide_server.specs.Openings.{EndsAs, ServerStates, service_of, served_data_from}
+use Rattle.tide_server.specs.Openings.{EndsAs, ServerStates, service_of, served_data_from, served_data_named}
 
 -- the names of the files of a request to serve, in the order of reading; `name` is the harmonics file;
 -- if the Option is Some, only up to the file that is the reason why there are no data
@@ -21,6 +23,14 @@ served_data_names name question (Some slots.File) = name ∷ []
 served_data_names name question (Some slots.Offsets) = name ∷ as_list question.offsets
 served_data_names name question (Some slots.Zone) = name ∷ as_list question.offsets
 served_data_names name question (Some slots.Certificate) = name ∷ as_list question.offsets
+
+-- between the states `before` and `after` of the files, the files of the request `question` to serve,
+-- whose harmonics file is called `name`, were read within the limit for them; the result is the data
+-- that their contents give, as in `IsResultOf`
+pub record ReadsServedData (question : Question) (name : List ℕ) (before after : FilesState) (result : Result ServedData RunFault) : Type 0 where
+  pub shown : IsResultOf (served_data_names name question) (AreShown question) (λ folders. served_data_named folders question name)
+      before.open_log after.open_log result
+  pub read : ReadWithin (both (one_file (limit_of slots.File)) (allowed_for slots.Offsets question.offsets)) (reading_failed result) before after
 
 -- the names of the files of a request to serve, in the order of reading, up to the file `why`, which is
 -- the reason why there are no data; none if the request names no harmonics file

@@ -4,13 +4,11 @@ ghost use Rattle.std.specs.Prelude.{◌≡◌, false, IsOk};
 ghost use Rattle.decimal_text.specs.Expected.{EqualsUnlessNoMemory};
 ghost use Rattle.question.specs.Questions.{is_out_of_memory as ask_is_out_of_memory};
 ghost use Rattle.tide_fault.specs.Faults.{is_out_of_memory};
-ghost use Rattle.tide_edge.specs.Whole.{ReadWithin, both, one_file};
+ghost use Rattle.tide_edge.specs.Whole.{ReadWithin};
 ghost use Rattle.named_files.specs.RunFaults.{reading_failed};
-ghost use Rattle.named_files.specs.Opened.{AreShown, AreShownFor, IsResultOf};
-ghost use Rattle.named_files.specs.Readings.{allowed_for, limit_of};
-ghost use Rattle.tide_fault.specs.declared.slot.Slot.{Slot};
-ghost use Rattle.tide_server.specs.Openings.{asks_another, files_asked, service_in, service_of, served_data_from, served_data_named};
-ghost use Rattle.tide_server.specs.Shown.{names_served, served_data_names};
+ghost use Rattle.named_files.specs.Opened.{AreShownFor, IsResultOf};
+ghost use Rattle.tide_server.specs.Openings.{asks_another, files_asked, service_in, service_of, served_data_from};
+ghost use Rattle.tide_server.specs.Shown.{ReadsServedData, names_served};
 
 use crate::served_data::{ServedData, ValidServedData};
 use decimal_text::{Text, Words};
@@ -52,17 +50,13 @@ pub(crate) fn read_served_data<F: Files>(
 }
 
 /// Reads the data of a request; its harmonics file is `name`.
-#[tactic(auto, unfolding(crate::specs::Openings::served_data_named))]
 fn read_named<F: Files>(
     alloc: Global,
     files: &mut F,
     question: &Question,
     name: &Text,
 ) -> Result<ValidServedData, RunFault>
-    ensures shown { IsResultOf (served_data_names name.now question.now) (AreShown question.now)
-        (λ folders. served_data_named folders question.now name.now) (F.state files.old).open_log (F.state files.new).open_log result }
-    ensures read { ReadWithin (both (one_file (limit_of Slot.File)) (allowed_for Slot.Offsets question.now.offsets))
-        (reading_failed result) (F.state files.old) (F.state files.new) }
+    ensures { ReadsServedData question.now name.now (F.state files.old) (F.state files.new) result }
 {
     let book = read_book(alloc, files, name)?;
     match read_table(alloc, files, &question.offsets) {
