@@ -1,5 +1,5 @@
 -- The opening of one file, and of one after the other.
-use Rattle.std.proofs.Common.{◌≡◌, ◌∙◌, ap, sym, ℕ, ◌+◌, List, [], ◌∷◌, ◌++◌, length, map, Option, Some, None, Result, Ok, Err, inl, inr, refl, subst, append_assoc, append-nil, suc}
+use Rattle.std.proofs.Common.{◌≡◌, ◌∙◌, ap, sym, ℕ, List, [], ◌∷◌, ◌++◌, length, map, Option, Some, None, Result, Ok, Err, inl, inr, refl, subst, append_assoc, append-nil, suc}
 use Rattle.std.specs.Prelude.{Bool, true, false, if◌then◌else◌, ◌<◌, IfSome, IsTrue, OnOk, slice_get, All}
 use Rattle.std.specs.Result.{IsErrAnd}
 use Rattle.named_files.specs.declared.loading.LoadFault.{LoadFault}
@@ -10,7 +10,6 @@ use Rattle.harmonics_book.specs.declared.book.Book.{Book as TheBook}
 use Rattle.harmonics_text.specs.declared.fault.BookFault.TheVariants as form
 use Rattle.question.specs.declared.question.Question.{Question}
 use Rattle.std.specs.Option.{ForSome}
-use Rattle.std.proofs.lemmas.List.{length-append}
 use Rattle.std.proofs.lemmas.List.Elements.{All-get_or, All-tail}
 use Rattle.std.proofs.lemmas.Option.{slice_get_cases}
 use Rattle.tide_edge.specs.FileStates.{Folder, Opening, Openings, FileContents, as_list, openings_of}
@@ -23,10 +22,9 @@ use Rattle.tide_edge.specs.declared.files.read_all_fault.ReadAllFault.TheVariant
 use Rattle.tide_fault.specs.declared.slot.Slot.{Slot}
 use Rattle.tide_fault.specs.declared.slot.Slot.TheVariants.{File, Offsets, Zone, Certificate}
 use Rattle.named_files.specs.declared.run_fault.RunFault.{RunFault}
-use Rattle.named_files.specs.RunFaults.{IsOf, file_of, source_of}
-use Rattle.named_files.specs.Opened.{AreOpened, AreShown, AreShownFor, IsShown, Opened, ReadsFile, folders_shown, index_of, names_of, names_to, shown}
-use Rattle.named_files.specs.declared.materials.Materials.{Materials}
-use Rattle.named_files.specs.Readings.{Folders, book_named, bytes_from, bytes_of, files_in, limit_of, zone_file}
+use Rattle.named_files.specs.RunFaults.{source_of}
+use Rattle.named_files.specs.Opened.{AreShown, AreShownFor, IsShown, Opened, ReadsFile, folders_shown, index_of, names_of, names_to, shown}
+use Rattle.named_files.specs.Readings.{Folders, book_named, bytes_from, bytes_of, limit_of, zone_file}
 use Rattle.named_files.proofs.ReadingLemmas.{IsOfContents, excuses_book, excuses_bytes, meets_at, meets_inside, named_book, named_from}
 
 out_of_memory_meets : {T : Type 0} (firm : Type 0) (expected result : Result T RunFault) → IsOutOfMemory source_of result

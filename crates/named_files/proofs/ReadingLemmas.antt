@@ -24,16 +24,15 @@ use Rattle.question.specs.declared.question.Question.{Question}
 use Rattle.std.specs.Option.{ForSome}
 use Rattle.std.specs.Result.{IfErr, IfOk}
 use Rattle.tide_edge.specs.FileStates.{FilesState}
-use Rattle.tide_edge.specs.Whole.{Allowance, ReadWithin, both, one_file, whole, source_of as source_of_reading}
-use Rattle.tide_edge.proofs.ReadingLemmas.{read_then}
+use Rattle.tide_edge.specs.Whole.{Allowance, ReadWithin, whole, source_of as source_of_reading}
 use Rattle.zone_time.specs.declared.zone.Zone.{Zone as TheZone}
 use Rattle.zone_time.specs.declared.zone_fault.ZoneFault.{ZoneFault}
 use Rattle.zone_time.specs.declared.zone_fault.ZoneFault.TheVariants as zones
 use Rattle.zone_time.specs.Zones.{IsZone, is_out_of_memory as zone_is_out_of_memory}
 use Rattle.named_files.specs.declared.run_fault.RunFault.{RunFault}
 use Rattle.named_files.specs.declared.run_fault.RunFault.TheVariants.{Unread, Faulty, Refused}
-use Rattle.named_files.specs.RunFaults.{IsOf, file_of, is_unread, reading_failed, source_of, faulty, is_out_of_memory}
-use Rattle.named_files.specs.Readings.{allowed_for, allowed_to, files_allowed, zone_file, book_from, book_named, bytes_from, bytes_of, fault_of_loading, fault_of_reading, limit_of, table_from, zone_from}
+use Rattle.named_files.specs.RunFaults.{IsOf, is_unread, reading_failed, source_of, faulty, is_out_of_memory}
+use Rattle.named_files.specs.Readings.{allowed_to, files_allowed, book_from, book_named, bytes_from, bytes_of, fault_of_loading, fault_of_reading, limit_of, table_from, zone_from}
 
 -- ---- Steps, one after the other
 

@@ -1,8 +1,8 @@
 -- The files of a request, read one after the other.
-use Rattle.std.proofs.Common.{◌≡◌, ◌∙◌, ap, sym, ℕ, false, arith, List, [], ◌∷◌, ◌++◌, length, map, append_assoc, append-nil, Option, Some, Result, Ok, Err, refl, suc}
+use Rattle.std.proofs.Common.{◌≡◌, ◌∙◌, ap, sym, ℕ, false, arith, List, [], ◌∷◌, ◌++◌, length, map, append_assoc, append-nil, Option, Some, Result, Ok, Err, refl}
 use Rattle.std.specs.Prelude.{◌≤◌, Bool, IsTrue}
 use Rattle.std.specs.Result.{IsErrAnd}
-use Rattle.std.proofs.lemmas.List.{length-append, map-append}
+use Rattle.std.proofs.lemmas.List.{length-append}
 use Rattle.decimal_text.specs.Expected.{Excuses, Meets}
 use Rattle.decimal_text.specs.declared.limits.TheConstants.{MOST_BYTES}
 use Rattle.harmonics_book.specs.Books.{IsBook}
@@ -19,8 +19,8 @@ use Rattle.tide_fault.specs.declared.slot.Slot.TheVariants.{File, Offsets, Zone,
 use Rattle.named_files.specs.declared.run_fault.RunFault.{RunFault}
 use Rattle.named_files.specs.declared.materials.Materials.{Materials}
 use Rattle.named_files.specs.RunFaults.{IsOf, file_of, is_unread, source_of}
-use Rattle.named_files.specs.Opened.{AreShown, IsShown, Opened, ReadsFile, ReadsFiles, index_of, names_to}
-use Rattle.named_files.specs.Readings.{Folders, allowed_for, allowed_to, book_named, certificate_named, files_in, limit_of, table_named, zone_file, zone_named}
+use Rattle.named_files.specs.Opened.{AreShown, IsShown, ReadsFile, ReadsFiles, index_of, names_to}
+use Rattle.named_files.specs.Readings.{Folders, allowed_for, allowed_to, book_named, certificate_named, files_in, table_named, zone_file, zone_named}
 use Rattle.named_files.proofs.ReadingLemmas.{meets_at, said_at, wider, within_all}
 use Rattle.named_files.proofs.OpenedLemmas.{all_named, length-names, names_on, shown_at, stops_at}
 
