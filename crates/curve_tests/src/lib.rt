@@ -18,6 +18,8 @@ mod events;
 #[cfg(test)]
 mod examples;
 #[cfg(test)]
+mod faults;
+#[cfg(test)]
 mod highest;
 #[cfg(test)]
 mod hills;

@@ -56,7 +56,7 @@ pub fn under_cells_hold_nothing_higher()
     ensures first { (c : CurveSpec) (at value a : ℤ) (n : ℕ) → IsLawful c → IsSpan c a n →
         is_under c at value a n ≡ true → (m : ℤ) → a ≤ℤ m → m <ℤ (a +ℤ pos n) → m <ℤ at →
         c.track.value m <ℤ value }
-    ensures beside { (c : CurveSpec) (at value a : ℤ) (n : ℕ) → is_under c at value a n ≡ true →
+    ensures excludes_at { (c : CurveSpec) (at value a : ℤ) (n : ℕ) → is_under c at value a n ≡ true →
         a ≤ℤ at → (a +ℤ pos n) ≤ℤ at }
 {}
 

@@ -58,7 +58,3 @@ changes =
     ∷ change 7 (codes "done") 8
     ∷ change 31 (codes "Done") 31
     ∷ []
-
--- a certificate with a value of 37 digits, the most, and no cells
-abbrev pub widest : PeakCertificate
-widest = record pier { peak = record { at = pos 15791040; value = pos 9999999999999999999999999999999999999; cells = [] } }

@@ -64,7 +64,7 @@ pub fn worked_locals()
 /// Proves the minutes that the clock of an example file for New York shows at some minutes, both
 /// counted from 1970-01-01 00:00 (`negsuc n` is -(n + 1)): in 1850 in mean time, whose seconds are
 /// rounded down, and in the last minute before and at each of four changes: 1883-11-18T17:00Z and
-/// 1999-10-31T06:00Z (`pos 941954400`) by the file's table, 2000-03-12T07:00Z and 2000-11-05T06:00Z
+/// 1999-11-07T06:00Z (`pos 941954400`) by the file's table, 2000-03-12T07:00Z and 2000-11-05T06:00Z
 /// by its rule. `label` is the text of a local time at a fixed offset of five hours behind.
 pub fn worked_clocks()
     ensures mean_time { clock_minute (new_york_to (pos 941954400)) (negsuc 63113759) ≡ negsuc 63114056 }
@@ -82,7 +82,7 @@ pub fn worked_clocks()
 /// Proves the zone of a file for a clock one hour ahead of universal time, and that this file cut
 /// short, or no bytes at all, have none. Also proves that the rule of the example file for New York
 /// gives the clock type of its table's last row, the end of daylight saving time at the second
-/// 941954400 (1999-10-31T06:00Z), but not if this row is a week too early (941349600).
+/// 941954400 (1999-11-07T06:00Z), but not if this row is a week too early (941349600).
 pub fn worked_zone_files()
     ensures consistent { is_consistent (new_york_to (pos 941954400)) ≡ true }
     ensures inconsistent { is_consistent (new_york_to (pos 941349600)) ≡ false }

@@ -7,5 +7,5 @@ returns-clause-greatest c = λ d at value a n lawful span under. (under-below d 
 pub returns-clause-first : goal.returns-clause-first
 returns-clause-first c = λ d at value a n lawful span under. (under-below d at value a n lawful span under).first
 
-pub returns-clause-beside : goal.returns-clause-beside
-returns-clause-beside c = under-beside
+pub returns-clause-excludes_at : goal.returns-clause-excludes_at
+returns-clause-excludes_at c = under-beside
