@@ -52,13 +52,20 @@ export function partsOf({ events }) {
 
 export const turnWidth = ({ clock, shown }) => Math.max(widthOf(clock.time), widthOf(shown, BOLD));
 
-/** Writes the level and the time of each turn where it crosses no other, and returns the boxes of these labels. */
-function drawTurns(context, area, graph, turns, colors) {
+/** Joins a point with its label if that isn't next to it. */
+function drawLeader(context, [x, y], { left, right, top, bottom }, colors) {
+  const edge = bottom < y ? bottom : top;
+  if (Math.abs(edge - y) > 12) drawLine(context, [x, y], [Math.min(Math.max(x, left), right), edge], { strokeStyle: colors.guide, lineWidth: 1 });
+}
+
+/** Writes the level and the time of each turn where they cross as little as can be, and returns the boxes of these labels. */
+function drawTurns(context, area, graph, turns, { others, curve }, colors) {
   const labels = turns.map(event => ({
     event, x: graph.toDomXCoord(event.moment), y: graph.toDomYCoord(event.level), isAbove: isTop(event),
     width: turnWidth(event) + 4, length: widthOf(`${event.clock.time}  `) + widthOf(event.shown, BOLD),
   }));
-  const boxes = placeLabels(labels, area);
+  const boxes = placeLabels(labels, area, others, curve);
+  labels.forEach(({ x, y }, place) => drawLeader(context, [x, y], boxes[place], colors));
   labels.forEach(({ event: { clock, shown }, x, y }, place) => {
     const { left, right, top, bottom, isUpright } = boxes[place], middle = (left + right) / 2;
     if (isUpright) {
@@ -82,20 +89,25 @@ export function fitLines(slacks, xOf) {
   return ['Flood', 'Ebb'].every(word => !isCrowded(slackPositions(slacks, word, xOf), width));
 }
 
-/** Writes the times of slacks at the bottom, away from the curve. */
+/** Writes the times of slacks at the bottom, away from the curve, and returns the boxes of these times. */
 function drawSlacks(context, area, graph, slacks, colors) {
   const isFlat = fitLines(slacks, moment => graph.toDomXCoord(moment)), bottom = area.y + area.h;
-  for (const event of slacks) {
+  return slacks.map(event => {
     const x = graph.toDomXCoord(event.moment), y = graph.toDomYCoord(event.level);
     const half = isFlat ? widthOf(event.clock.time) / 2 : 6;
     const middle = Math.min(Math.max(x, area.x + half + 2), area.x + area.w - half - 2);
-    const line = bottom - (event.event === 'Slack Flood Begins' ? 22 : 8);
-    drawLine(context, [x, y + 4], [x, isFlat ? line - 7 : bottom - UPRIGHT_SLACKS + 6], { strokeStyle: colors.guide, lineWidth: 1 }, [1, 3]);
+    const line = bottom - (event.event === 'Slack Flood Begins' ? 22 : 8), top = isFlat ? line - 7 : bottom - UPRIGHT_SLACKS + 6;
+    drawLine(context, [x, y + 4], [x, top], { strokeStyle: colors.guide, lineWidth: 1 }, [1, 3]);
     if (isFlat) write(context, event.clock.time, middle, line, colors);
     else writeUpwards(context, event.clock.time, middle, bottom - 4, colors, { textAlign: 'left' });
     drawPoint(context, [x, y], { color: colors.water, fill: colors.page, size: 3.5 });
-  }
+    return { left: middle - half, right: middle + half, top, bottom: isFlat ? line + 7 : bottom };
+  });
 }
+
+/** The points of the curve as boxes. */
+const curveOf = (graph, levels) => levels.map(({ moment, level }) => [graph.toDomXCoord(moment), graph.toDomYCoord(level)])
+  .map(([x, y]) => ({ left: x - 1, right: x + 1, top: y, bottom: y + 1 }));
 
 /** The levels of the lines for a sill, or for both sides of a limit. */
 export const linesOf = ({ sill, isCurrent }) => (sill === null ? [] : isCurrent ? [sill, -sill] : [sill]);
@@ -132,11 +144,8 @@ function drawJoins(context, graph, events, colors) {
 }
 
 /** Writes the sill's name, or its level if there is no room, on its line, where it crosses the least of labels and curve. */
-function nameThreshold(context, area, graph, picture, labels, colors) {
+function nameThreshold(context, area, graph, picture, boxes, colors) {
   const y = graph.toDomYCoord(linesOf(picture)[0]);
-  const points = picture.levels.map(({ moment, level }) => [graph.toDomXCoord(moment), graph.toDomYCoord(level)])
-    .map(([x, top]) => ({ left: x - 1, right: x + 1, top, bottom: top + 1 }));
-  const boxes = [...labels, ...labels, ...labels, ...points];
   const places = [picture.sillText, picture.sillText.replace(/^\w+ (at|of) /, '')]
     .map(text => ({ text, ...freeX(widthOf(text, BOLD), [y - 16, y - 3], boxes, area) }));
   const { text, left } = places.find(({ count }) => count === 0) ?? places.at(-1);
@@ -150,8 +159,9 @@ export function drawBefore(context, area, graph, picture, colors) {
   for (const { moment, level } of picture.passes) {
     drawPoint(context, [graph.toDomXCoord(moment), graph.toDomYCoord(level)], { color: colors.mark, fill: colors.mark, size: 2 });
   }
-  drawSlacks(context, area, graph, slacks, colors);
-  const boxes = drawTurns(context, area, graph, turns, colors);
+  const curve = curveOf(graph, picture.levels), others = drawSlacks(context, area, graph, slacks, colors);
+  const labels = [...others, ...drawTurns(context, area, graph, turns, { others, curve }, colors)];
+  const boxes = [...labels, ...labels, ...labels, ...curve];
   if (picture.sill !== null) nameThreshold(context, area, graph, picture, boxes, colors);
   const now = graph.toDomXCoord(Date.now());
   if (picture.isPaper || now < area.x || now >= area.x + area.w) return;

@@ -60,7 +60,11 @@ const corners = boxes => boxes.map(({ left, top, isUpright }) => `${left} ${top}
 
 same('labels above and below', corners(placeLabels([label(100, 100, true), label(200, 100, false)], AREA)), ['85 67', '185 107']);
 same('labels stay within the picture', corners(placeLabels([label(0, 100, true), label(400, 100, true)], AREA)), ['2 67', '368 67']);
-same('labels that would cross', corners(placeLabels([label(100, 100, true), label(110, 100, true), label(120, 100, true)], AREA)), ['85 67', '95 41', '113.5 33 upright']);
+same('labels that would cross', corners(placeLabels([label(100, 100, true), label(110, 100, true), label(120, 100, true)], AREA)), ['85 67', '95 41', '120 67']);
+same('labels of more points than fit side by side', corners(placeLabels([94, 100, 106, 112, 118, 124].map(x => label(x, 100, true)), AREA)).filter(text => text.endsWith('upright')).length, 0);
+same('a label at the upper edge', corners(placeLabels([label(100, 10, true)], AREA)), ['85 17']);
+same('a label beside another text, and beside the curve', corners(placeLabels([label(100, 100, true), label(200, 100, false)], AREA,
+  [{ left: 60, right: 90, top: 60, bottom: 90 }], [{ left: 180, right: 190, top: 100, bottom: 140 }])), ['92.5 67', '192.5 107']);
 same('crowded', [[10, 50], [10, 40], [10], []].map(positions => isCrowded(positions, 30)), [false, true, false, false]);
 same('room for labels', [[10, 50], [10, 40]].map(positions => roomFor(positions, 30)), [37, 74]);
 same('a free place', freeX(40, [0, 10], [{ left: 0, right: 50, top: 0, bottom: 10 }, { left: 0, right: 400, top: 20, bottom: 30 }], AREA), { left: 54, count: 0 });
