@@ -145,7 +145,8 @@ export function drawChart(box, answer) {
   steps.forEach(({ v }, place) => {
     const y = graph.toDomYCoord(v);
     texts[place].style.top = `${y}px`;
-    texts[place].hidden = y < 7;
+    // A label at the upper end would be cut, and one at the lower end would cross the unit.
+    texts[place].hidden = y < 7 || y > box.clientHeight - DATES - 4;
   });
   showCaption(frame, captionOf(picture, graph));
   followKeys(frame, graph, rows, picture.report);
