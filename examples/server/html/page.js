@@ -1,6 +1,7 @@
 import { aboutLine, clocksText, stationText, turnsOnlyText, whenText } from './about.js';
 import { answerTo } from './answer.js';
 import { drawChart, followPaper } from './chart.js';
+import { showDifferences } from './differences.js';
 import { listenToFinder, showFound, showNear, suggest, takeStations } from './finder.js';
 import { askNow, nowText } from './now.js';
 import { addressOf, decimalText, faultsOf, questionOf } from './question.js';
@@ -74,6 +75,7 @@ function showStation(answer) {
   controls.units.options[0].textContent = `${answer.ownUnits} (the station's)`;
   explainSill({ ...answer, datum: known?.notes.datum ?? reference?.notes.datum });
   showNear(known);
+  showDifferences(answer);
 }
 
 function showCurve(answer, isPaper = false) {

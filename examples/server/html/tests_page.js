@@ -2,6 +2,7 @@ import { marksFor, wholeDays } from './answer.js';
 import { directionsText, timesText, turnsOnlyText } from './about.js';
 import { readRecords } from './csv.js';
 import { timesWithin } from './events.js';
+import { differencesOf } from './differences.js';
 import { calendarOf, csvOf, fileName, summaryOf } from './export.js';
 import { placeOf } from './near.js';
 import { nextEvents, nowText, readClock, stateText } from './now.js';
@@ -187,3 +188,15 @@ same('summaries', [['Max Ebb', -2.34], ['Slack Flood Begins', 0.01], ['Min Flood
 same('file names', [fileName(answer, 'csv'), fileName({ ...answer, view: 'month' }, 'ics'), fileName({ ...answer, station: 'Olhão', view: 'year' }, 'txt')],
   ['pier-a-2026-12-01-week.csv', 'pier-a-2026-12.ics', 'olhao-2026.txt']);
 same('a clock of UTC', clockAt(moments[0], 'UTC').time, '09:27');
+
+// The differences of a subordinate station.
+const ROWS = readRecords(`name,reference,high_add,low_add,high_times,low_times,high_plus,low_plus,flood_add,ebb_add
+Dock,Pier,0:05,-1:12,0.930,1.000,0.100,-0.25,,
+Sound,Race,,0:00,1,,0,,0:25,-00:04
+Old,Race,24:00,0:01,1.5,2,,,,
+`);
+const differences = (place, isCurrent, ownUnits) => differencesOf(ROWS[place], { isCurrent, ownUnits });
+same('differences of a tide', differences(0, false, 'feet'), ['High waters: 0 h 05 min later, levels × 0.93 + 0.1 feet', 'Low waters: 1 h 12 min earlier, levels − 0.25 feet']);
+same('differences of a current', differences(1, true, 'knots'),
+  ['Greatest floods: at the same time', 'Greatest ebbs: at the same time', 'Slacks before flood: 0 h 25 min later', 'Slacks before ebb: 0 h 04 min earlier']);
+same('differences of a current without times of slacks', differences(2, true, 'knots'), ['Greatest floods: 24 h 00 min later, levels × 1.5', 'Greatest ebbs: 0 h 01 min later, levels × 2']);
