@@ -273,7 +273,8 @@ def about_lines(year):
     what = f'Current in {units}, flood above 0 and ebb below' if year.is_current else f'Tide in {units} above {datum}'
     after = f'by differences from {station["reference"]}' if station.get('reference') else ''
     source = f'constants from {notes["source"]}' if notes.get('source') else ''
-    lines = [' · '.join(filter(None, (what, directions_text(notes) if year.is_current else '', after))), times_text(year),
+    sill = f'{"limit of" if year.is_current else "sill at"} {year.sill} {units}' if year.sill else ''
+    lines = [' · '.join(filter(None, (what, directions_text(notes) if year.is_current else '', after, sill))), times_text(year),
              ' · '.join(filter(None, (place_text(notes), notes.get('country'), notes.get('identifier'), source)))]
     return [line for line in lines + [turns_only_text(station) if station.get('left_out') else ''] if line]
 

@@ -143,16 +143,17 @@ function drawJoins(context, graph, events, colors) {
   points.slice(1).forEach((point, place) => drawLine(context, points[place], point, { strokeStyle: colors.water, lineWidth: 1 }, [3, 4]));
 }
 
-/** Writes the sill's name, or its level if there is no room, on its line, where it crosses the least of labels and curve. */
-function nameThreshold(context, area, graph, picture, boxes, colors) {
-  const y = graph.toDomYCoord(linesOf(picture)[0]);
-  const places = [picture.sillText, picture.sillText.replace(/^\w+ (at|of) /, '')]
-    .map(text => ({ text, ...freeX(widthOf(text, BOLD), [y - 16, y - 3], boxes, area) }));
-  const { text, left } = places.find(({ count }) => count === 0) ?? places.at(-1);
-  write(context, text, left, y - 9, colors, { font: BOLD, fillStyle: colors.mark, textAlign: 'left' });
+/** Writes the name of a line, or its level alone, above or below the line, where it crosses the fewest of some boxes; returns its box. */
+function nameLine(context, area, y, name, boxes, colors) {
+  const middles = [y - 9.5, y + 9.5].filter(middle => middle - 7 >= area.y && middle + 7 <= area.y + area.h);
+  const places = [name, name.replace(/^\w+ (at|of) /, '')].flatMap(text => middles.map(middle =>
+    ({ text, middle, ...freeX(widthOf(text, BOLD), [middle - 6.5, middle + 6.5], boxes, area) })));
+  const { text, middle, left } = places.reduce((best, place) => (place.count < best.count ? place : best));
+  write(context, text, left, middle, colors, { font: BOLD, fillStyle: colors.mark, textAlign: 'left' });
+  return { left, right: left + widthOf(text, BOLD), top: middle - 6.5, bottom: middle + 6.5 };
 }
 
-/** Draws in front of the curve: the events, the sill's name, and 'now'. */
+/** Draws in front of the curve: the events, the name of the sill or on both sides that of the limit, and 'now'. */
 export function drawBefore(context, area, graph, picture, colors) {
   const { turns, slacks } = partsOf(picture);
   if (picture.levels.length === 0) drawJoins(context, graph, picture.events, colors);
@@ -162,7 +163,7 @@ export function drawBefore(context, area, graph, picture, colors) {
   const curve = curveOf(graph, picture.levels), others = drawSlacks(context, area, graph, slacks, colors);
   const labels = [...others, ...drawTurns(context, area, graph, turns, { others, curve }, colors)];
   const boxes = [...labels, ...labels, ...labels, ...curve];
-  if (picture.sill !== null) nameThreshold(context, area, graph, picture, boxes, colors);
+  for (const level of linesOf(picture)) boxes.push(nameLine(context, area, graph.toDomYCoord(level), picture.sillText, boxes, colors));
   const now = graph.toDomXCoord(Date.now());
   if (picture.isPaper || now < area.x || now >= area.x + area.w) return;
   const isLate = now > area.x + area.w - 40;

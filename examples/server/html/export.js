@@ -1,5 +1,6 @@
 import { isSlack } from './events.js';
 import { hasPlace } from './near.js';
+import { stateText } from './sheets.js';
 import { shortUnits } from './units.js';
 import { clockAt, momentText } from './zones.js';
 
@@ -78,7 +79,7 @@ export function calendarOf(answer, now) {
       description: `${event.event}${isSlack(event) ? '' : ` ${event.shown} ${units}${source}`}. ${warning}` })),
     // The last whole minute is still above the sill.
     ...times.map(time => ({ from: time.from, to: time.to + MINUTE, key: `${isCurrent ? 'within' : 'above'}-${sill}`, summary: short,
-      description: [`${windowName(answer)}.`, time.openFrom && cuts.from, time.openTo && cuts.to, warning].filter(Boolean).join(' ') })),
+      description: [`It is ${stateText(answer)}.`, time.openFrom && cuts.from, time.openTo && cuts.to, warning].filter(Boolean).join(' ') })),
   ].sort((one, other) => one.from - other.from);
   const lines = ['BEGIN:VCALENDAR', 'VERSION:2.0', 'PRODID:-//Tides and currents//Page//EN', `X-WR-CALNAME:${escaped(station)}`,
     ...entries.flatMap(each => entry(answer, now, each)), 'END:VCALENDAR'];

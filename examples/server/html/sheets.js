@@ -26,7 +26,7 @@ const levelOf = ({ isCurrent, sill }) => (isCurrent ? sill.replace(/^-/, '') : s
 /** The name of the level for which times are computed: a sill, or the limit of a current. */
 export const thresholdText = answer => `${answer.isCurrent ? 'limit of' : 'sill at'} ${levelOf(answer)} ${answer.units}`;
 /** What holds during the times that an answer lists. */
-const stateText = answer => `${answer.isCurrent ? 'within' : 'above'} the ${thresholdText(answer)}`;
+export const stateText = answer => `${answer.isCurrent ? 'within' : 'above'} the ${thresholdText(answer)}`;
 const capital = text => text[0].toUpperCase() + text.slice(1);
 
 /** The time of a clock, with its offset if the sheet has more than one. */

@@ -183,6 +183,7 @@ for (const line of ['SUMMARY:High 9.6 ft', 'SUMMARY:Low 0.0 ft', 'SUMMARY:Above 
   same(`a calendar's line ${line}`, unfolded.includes(`${line}\r\n`), true);
 }
 same('an entry for each event and each time', calendar.match(/BEGIN:VEVENT/g).length, 3);
+same('an entry names its sill', unfolded.includes('DESCRIPTION:It is above the sill at 4 feet. It goes on after this calendar ends.'), true);
 same('summaries', [['Max Ebb', -2.34], ['Slack Flood Begins', 0.01], ['Min Flood', 0.3]].map(([event, level]) => summaryOf({ event, level }, 'knots')),
   ['Max ebb -2.3 kn', 'Slack, flood begins', 'Min flood 0.3 kn']);
 same('file names', [fileName(answer, 'csv'), fileName({ ...answer, view: 'month' }, 'ics'), fileName({ ...answer, station: 'Olhão', view: 'year' }, 'txt')],

@@ -1,6 +1,6 @@
 import { directionsText, stationText, timesText } from './about.js';
 import { isStrongest } from './events.js';
-import { element } from './sheets.js';
+import { element, thresholdText } from './sheets.js';
 import { shortUnits } from './units.js';
 import { aboveText, dayOf, heightOf, layoutOf, MONTHS, shortTime, SIGNS, sizeFor } from './year_days.js';
 
@@ -73,10 +73,11 @@ function monthPart({ month, columns }, answer) {
 
 /** The unit, the datum, the clock and the place. */
 function aboutLines(answer) {
-  const { isCurrent, isConverted, units, ownUnits, datum, known } = answer;
+  const { isCurrent, isConverted, units, ownUnits, datum, known, sill } = answer;
   const what = isCurrent ? `Current in ${units}, flood above 0 and ebb below` : `Tide in ${units}${isConverted ? ` (converted from ${ownUnits})` : ''} above ${datum ?? 'the datum of its constants'}`;
   return [
-    [what, isCurrent ? directionsText(known?.notes) : '', known?.reference ? `by differences from ${known.reference}` : ''].filter(Boolean).join(' · '),
+    [what, isCurrent ? directionsText(known?.notes) : '', known?.reference ? `by differences from ${known.reference}` : '',
+      sill === null ? '' : thresholdText(answer)].filter(Boolean).join(' · '),
     timesText(answer), known ? stationText(known) : '',
   ].filter(Boolean);
 }
