@@ -46,7 +46,7 @@ OPENED = [
      ['This station has high and low waters only.', 'So there are no times above a sill here.', 'canvas']),
     ('turns of a current only', {'station': SOUND, 'date': '2025-06-01'}, ['This station has slack waters and greatest speeds only.', 'canvas']),
     ('a week past the file', {'station': BOSTON, 'date': '2199-01-01'}, ['The constants reach from 1 January', 'by the clock of America/New_York', 'refused: out of years']),
-    ('a station that is not there', {'station': 'Atlantis'}, ['There is no station “Atlantis” here', 'refused: no station']),
+    ('a station that is not there', {'station': 'Atlantis'}, ['There is no station “Atlantis” here. Look for a part of its name above.', 'refused: no station']),
     ('a name that is mistyped', {'station': 'Bostn Harbor'}, ['There is no station “Bostn Harbor” here', f'<span>{BOSTON} <']),
     ('a sill that is no number', {'station': BOSTON, 'sill': 'deep'}, ['The sill or limit, “deep”, is not a number', 'words: pair']),
     ('a day that is not there', {'station': BOSTON, 'date': '2026-13-45'}, ['The date, “2026-13-45”, is not a day of the calendar', 'Leave out what is wrong']),
@@ -117,11 +117,16 @@ class PageTrial:
         for query, wanted in (({'station': RACE, 'year': '2027', 'sill': '2'}, ['Within 2 kn', 'limit of']),
                               ({'station': BOSTON, 'year': '2027', 'sill': '1.2', 'units': 'metres', 'hours': '12'}, ['Above 1.2 m', 'converted from feet']),
                               ({'station': BOSTON, 'year': '12345'}, ['The year, “12345”, is not a year']),
+                              ({'station': BOSTON, 'year': '2027', 'sill': '40'}, ['Above 40 ft: at no time of this year', 'January 2027 <span>UTC-05:00<']),
+                              ({'station': BOSTON, 'year': '2027', 'sill': '-40'}, ['Above -40 ft: all of this year']),
+                              ({'station': 'Atlantis', 'year': '2027'}, ['There is no station “Atlantis” here', 'Look for a part of its name.']),
+                              ({'year': '2027'}, ['Choose a station on the page of the week.']),
                               ({'station': BOSTON, 'year': '2027', 'date': '2026-13-45'}, ['The date, “2026-13-45”, is not a day'])):
             with Tab(self.site, 1280, 900) as tab:
                 document = tab.open(f'year.html?{urllib.parse.urlencode(query)}', shown)
                 missing = [text for text in wanted if text not in document]
-                self.say(not missing and not tab.complaints, f'year: {query}{"".join(f"; lacks {text}" for text in missing)}{"".join(tab.complaints)}')
+                faults = [line for line in tab.complaints if 'status of 4' not in line]
+                self.say(not missing and not faults, f'year: {query}{"".join(f"; lacks {text}" for text in missing)}{"".join(faults)}')
 
     def checked(self):
         """The buttons that open the checker: of a sill, and of both sides of a limit."""

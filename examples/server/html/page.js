@@ -48,7 +48,8 @@ function goTo(changes) {
 
 function noteOf(error) {
   if (!(error instanceof NoAnswer)) throw error;
-  return element('div', { className: 'note' }, error.message, ...(error.line ? [' ', element('code', {}, error.line)] : []));
+  const more = error.isNoStation ? ' Look for a part of its name above.' : '';
+  return element('div', { className: 'note' }, error.message, more, ...(error.line ? [' ', element('code', {}, error.line)] : []));
 }
 
 /** Tries again to show the question, later each time, until the server answers. */
@@ -186,7 +187,7 @@ async function show() {
     if (turn !== shows) return;
     showTrouble(noteOf(error));
     if (error.kind !== 'refused') tryLater();
-    if (error.line === 'refused: no station') suggest(wanted.station);
+    if (error.isNoStation) suggest(wanted.station);
   }
   place('answer').setAttribute('aria-busy', 'false');
 }

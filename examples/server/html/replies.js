@@ -1,6 +1,6 @@
 /** The lines of refusals and the page's texts for them. In a text $1 is a part of the line, and {key} the value of a key of the question. */
 const TEXTS = [
-  [/^refused: no station$/, 'There is no station “{station}” here. Look for a part of its name above.'],
+  [/^refused: no station$/, 'There is no station “{station}” here.'],
   [/^refused: no reference (.*)$/, '“{station}” is computed by differences from “$1”, which the file of constants lacks.'],
   [/^refused: hydraulic$/, '“{station}” is a hydraulic current, whose speed comes from a difference of water levels. Such currents are not predicted.'],
   [/^refused: out of years: file has (.*) to (.*)$/, 'The constants reach from $1 to $2. Choose a date between them.'],
@@ -14,7 +14,7 @@ const KEYS = { mark: 'sill or limit', station: 'station', begin: 'begin', end: '
 export class NoAnswer extends Error {
   constructor(kind, words, line = '') {
     super(words);
-    Object.assign(this, { kind, line });
+    Object.assign(this, { kind, line, isNoStation: line === 'refused: no station' });
   }
 }
 

@@ -125,7 +125,7 @@ for (const [reply, kind] of [
 ]) same(`status ${reply[0]} of ${reply[1]}`, noAnswer(...reply)[0], kind);
 const QUESTION = { station: 'Atlantis', begin: '2025-06-08T00:00Z', end: '2025-06-01T00:00Z', layout: 'csv', mark: 'deep' };
 for (const [line, text] of [
-  ['refused: no station', 'There is no station “Atlantis” here. Look for a part of its name above.'],
+  ['refused: no station', 'There is no station “Atlantis” here.'],
   ['refused: no reference Boston', '“Atlantis” is computed by differences from “Boston”, which the file of constants lacks.'],
   ['refused: backward span', 'The question ends (2025-06-01T00:00Z) before it begins (2025-06-08T00:00Z).'],
   ['refused: out of years: file has 2020-01-01T00:00Z to 2030-12-31T23:59Z', 'The constants reach from 2020-01-01T00:00Z to 2030-12-31T23:59Z. Choose a date between them.'],

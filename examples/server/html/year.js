@@ -64,9 +64,12 @@ async function askYear(question, all) {
   };
 }
 
-function note(text, line = '') {
-  place('trouble').append(element('div', { className: 'note' }, text, ...(line ? [' ', element('code', {}, line)] : [])));
+function note(...parts) {
+  place('trouble').append(element('div', { className: 'note' }, ...parts));
 }
+
+/** A link to the page of the week, where stations can be found. */
+const weekLink = text => element('a', { href: place('week').href }, text);
 
 function showControls({ station, year, zone, sill, units }) {
   controls.zone.append(...zoneNames().map(name => new Option(name, name)));
@@ -97,7 +100,7 @@ async function show(question, all) {
     fillPaper(answer, layout);
   } catch (error) {
     if (!(error instanceof NoAnswer)) throw error;
-    note(error.message, error.line);
+    note(error.message, ...(error.isNoStation ? [' ', weekLink('Look for a part of its name.')] : []), ...(error.line ? [' ', element('code', {}, error.line)] : []));
   }
 }
 
@@ -108,7 +111,7 @@ async function start() {
   listen();
   setPaper();
   faults.forEach(({ text }) => note(text));
-  if (question.station === null) note('Choose a station on the page of the week.');
+  if (question.station === null) note(weekLink('Choose a station on the page of the week.'));
   else if (faults.length === 0) await show(question, all);
   place('sheets').setAttribute('aria-busy', 'false');
 }
