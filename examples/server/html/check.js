@@ -1,4 +1,5 @@
 import { levelText, linesOf } from './check_rules.js';
+import { readSums } from './check_sha.js';
 import { browserZone, clockAt, dateText, isZone, zoneNames } from './zones.js';
 
 const MEANINGS = {
@@ -57,9 +58,11 @@ function show() {
   place('days').replaceChildren(...Array.from(days, day => dayTable(day, offsets.size > 1)));
 }
 
-/** Shows the SHA-256 of each file, which can be saved, and whether it is among what the user pasted. */
+/** Shows the SHA-256 of each file, which can be saved, and whether it is among what the user pasted, or what is wrong with that. */
 function showSums() {
-  const known = controls.known.value.toLowerCase().match(/\b[0-9a-f]{64}\b/g) ?? [];
+  const { sums: known, fault } = readSums(controls.known.value);
+  place('pasted').hidden = fault === '';
+  place('pasted').textContent = fault;
   const other = which => element('strong', { className: 'warning' }, known.length > 0 && which !== 'certificate' ? ' is NOT the published one' : '');
   place('sums').replaceChildren(...Object.entries(result?.sums ?? {}).map(([which, sum]) => element('p', {}, 'SHA-256 of the ',
     element('a', { href: URL.createObjectURL(result.files[which]), download: FILES[which][1] }, FILES[which][0]), ' ',
@@ -130,4 +133,5 @@ controls.stop.addEventListener('click', () => stop());
 place('files').addEventListener('submit', checkNow);
 place('served').hidden = controls.file.required = isAlone;
 controls.certificate.required = isAlone || !query.has('station');
+showSums();
 if (query.has('station') && !isAlone) checkNow();

@@ -33,3 +33,36 @@ export function sha256(bytes) {
   for (let at = 0; at < tail.length; at += 64) mix(state, tail, at);
   return [...state].map(word => word.toString(16).padStart(8, '0')).join('');
 }
+
+const SIZE = 64;
+const isHexadecimal = text => /^[0-9a-f]+$/i.test(text);
+
+/** A character as it was pasted. One that isn't ASCII has its number too, since it may look like another one or can't be seen. */
+function characterText(character) {
+  const number = `U+${character.codePointAt(0).toString(16).toUpperCase().padStart(4, '0')}`;
+  return /[!-~]/.test(character) ? `“${character}”` : /[\p{L}\p{N}\p{P}\p{S}]/u.test(character) ? `“${character}” (${number})` : number;
+}
+
+/** What is wrong with words that have no SHA-256: about the word that is nearest to one, or about all of them together. */
+function faultOf(words) {
+  const isNear = word => [...word].filter(isHexadecimal).length >= SIZE / 2;
+  const characters = [...(words.find(isNear) ?? words.join(''))], place = characters.findIndex(character => !isHexadecimal(character));
+  if (place >= 0) return `This is no SHA-256: its character ${place + 1} is ${characterText(characters[place])}. A SHA-256 has only the digits 0 to 9 and the letters a to f.`;
+  return characters.length === 0 ? '' : `This is no SHA-256: it has ${characters.length} characters. A SHA-256 has ${SIZE}.`;
+}
+
+/**
+ * Each SHA-256 in a text that was pasted, such as lines of sha256sum, and what is wrong with a text that has none. Spaces and
+ * colons may divide a SHA-256, and its letters may be upper-case.
+ */
+export function readSums(text) {
+  const words = text.split(/[\s:=]+/).filter(Boolean), sums = [];
+  let begun = '';
+  for (const word of words) {
+    if (!isHexadecimal(word) || begun.length + word.length > SIZE) begun = '';
+    if (isHexadecimal(word)) begun += word.toLowerCase();
+    if (begun.length === SIZE) sums.push(begun);
+    if (begun.length >= SIZE) begun = '';
+  }
+  return { sums, fault: sums.length > 0 ? '' : faultOf(words) };
+}

@@ -1,8 +1,9 @@
 import { marksFor, wholeDays } from './answer.js';
 import { directionsText, timesText, turnsOnlyText } from './about.js';
+import { readSums, sha256 } from './check_sha.js';
 import { readRecords } from './csv.js';
-import { timesWithin } from './events.js';
 import { differencesOf } from './differences.js';
+import { timesWithin } from './events.js';
 import { calendarOf, csvOf, fileName, summaryOf } from './export.js';
 import { placeOf } from './near.js';
 import { nextEvents, nowText, readClock, stateText } from './now.js';
@@ -182,8 +183,8 @@ const unfolded = calendar.replaceAll('\r\n ', '');
 for (const line of ['SUMMARY:High 9.6 ft', 'SUMMARY:Low 0.0 ft', 'SUMMARY:Above 4 ft', 'LOCATION:Pier\\; "A"\\, Bay', 'GEO:42.5;-71', 'TRANSP:TRANSPARENT', 'DTEND:20261201T153000Z', 'DTSTAMP:20261130T120000Z']) {
   same(`a calendar's line ${line}`, unfolded.includes(`${line}\r\n`), true);
 }
-same('an entry for each event and each time', calendar.match(/BEGIN:VEVENT/g).length, 3);
 same('an entry names its sill', unfolded.includes('DESCRIPTION:It is above the sill at 4 feet. It goes on after this calendar ends.'), true);
+same('an entry for each event and each time', calendar.match(/BEGIN:VEVENT/g).length, 3);
 same('summaries', [['Max Ebb', -2.34], ['Slack Flood Begins', 0.01], ['Min Flood', 0.3]].map(([event, level]) => summaryOf({ event, level }, 'knots')),
   ['Max ebb -2.3 kn', 'Slack, flood begins', 'Min flood 0.3 kn']);
 same('file names', [fileName(answer, 'csv'), fileName({ ...answer, view: 'month' }, 'ics'), fileName({ ...answer, station: 'Olhão', view: 'year' }, 'txt')],
@@ -201,3 +202,23 @@ same('differences of a tide', differences(0, false, 'feet'), ['High waters: 0 h 
 same('differences of a current', differences(1, true, 'knots'),
   ['Greatest floods: at the same time', 'Greatest ebbs: at the same time', 'Slacks before flood: 0 h 25 min later', 'Slacks before ebb: 0 h 04 min earlier']);
 same('differences of a current without times of slacks', differences(2, true, 'knots'), ['Greatest floods: 24 h 00 min later, levels × 1.5', 'Greatest ebbs: 0 h 01 min later, levels × 2']);
+
+// The SHA-256 that is pasted into the checker.
+const SUM = sha256(new TextEncoder().encode('abc')), OTHER = sha256(new Uint8Array());
+same('a SHA-256', [SUM.slice(0, 8), OTHER.slice(0, 8)], ['ba7816bf', 'e3b0c442']);
+for (const [about, text] of [
+  ['as sha256sum prints it', `${SUM}  constants.txt\n`], ['in upper-case', ` ${SUM.toUpperCase()} `], ['in groups', SUM.replace(/.{8}/g, '$& ')],
+  ['in pairs with colons', SUM.match(/../g).join(':')], ['over two lines', `${SUM.slice(0, 40)}\n${SUM.slice(40)}`],
+  ['after a word', `SHA-256: ${SUM}`], ['as another program prints it', `SHA2-256(constants.txt)= ${SUM}`], ['after digits', `2027 ${SUM}`],
+]) same(`a SHA-256 ${about}`, readSums(text), { sums: [SUM], fault: '' });
+same('two lines of sha256sum', readSums(`${SUM}  constants.txt\n${OTHER}  offsets.csv\n`).sums, [SUM, OTHER]);
+const at12 = character => readSums(`${SUM.slice(0, 11)}${character}${SUM.slice(12)}  constants.txt`);
+for (const [character, text] of [['O', '“O”'], ['g', '“g”'], ['…', '“…” (U+2026)'], ['\u0430', '“\u0430” (U+0430)'], ['\u200b', 'U+200B'], ['\u{1f30a}', '“\u{1f30a}” (U+1F30A)']]) {
+  same(`a SHA-256 with ${text}`, at12(character),
+    { sums: [], fault: `This is no SHA-256: its character 12 is ${text}. A SHA-256 has only the digits 0 to 9 and the letters a to f.` });
+}
+for (const [text, fault] of [
+  [SUM.slice(1), 'it has 63 characters. A SHA-256 has 64.'], [`${SUM}${SUM}`, 'it has 128 characters. A SHA-256 has 64.'], ['ABC def', 'it has 6 characters. A SHA-256 has 64.'],
+  ['the sum', 'its character 1 is “t”. A SHA-256 has only the digits 0 to 9 and the letters a to f.'],
+]) same(`no SHA-256: ${text}`, readSums(text), { sums: [], fault: `This is no SHA-256: ${fault}` });
+same('nothing pasted', readSums(' \n'), { sums: [], fault: '' });
