@@ -11,7 +11,7 @@ SIGNS = {sign: word for word, sign in sheets.SIGNS.items()}
 TOKEN = re.compile(r'clock (?P<offset>[+-]\d\d:\d\d)|(?P<above>(?:\.\.|\d\d:\d\d)–(?:\.\.|\d\d:\d\d)(?: \+\d+)?)'
                    r'|(?P<begins>\d\d:\d\d) (?P<slack>S[FE])|(?P<before>\d\d:\d\d) (?=(?P<next>[FEfe]) ?\d)'
                    r'|(?P<sign>[HLFEfe]) ?(?P<time>\d\d:\d\d) ?(?P<level>-?\d+\.\d\d)|(?P<other>\S+)')
-MONTH = re.compile(r'([A-Z][a-z]+) ([+-]\d\d:\d\d)')
+MONTH = re.compile(r'([A-Z][a-z]+) \d+ UTC([+-]\d\d:\d\d)')
 MONTHS = [datetime.date(2000, month, 1).strftime('%B') for month in range(1, 13)]
 # The heads of columns, and the names of months and of tables, which may be cut since they aren't seen on the paper.
 HEADS = re.compile(rf'(Day ?)?(Event ?)?(Slack ?)?((Time|Max) .*)?|({"|".join(MONTHS)}) .*')

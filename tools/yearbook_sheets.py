@@ -228,11 +228,11 @@ def column_table(year, name, dates):
 
 
 def month_part(year, month, columns):
-    name = calendar.month_name[month]
+    name = f'{calendar.month_name[month]} {year.year}'
     before = [change.offset for change in year.changes if change.date < columns[0][0]]
     offset = before[-1] if before else year.clock.at(year.begin)[2]
-    tables = (column_table(year, f'{name} {year.year}, {int(dates[0][8:])} to {int(dates[-1][8:])}', dates) for dates in columns)
-    return element('section', element('h3', f'{name} {element("span", offset)}')
+    tables = (column_table(year, f'{name}, {int(dates[0][8:])} to {int(dates[-1][8:])}', dates) for dates in columns)
+    return element('section', element('h3', f'{name} {element("span", f"UTC{offset}")}')
                    + ''.join(element('div', table, **{'class': 'column'}) for table in tables), **{'class': 'month'})
 
 

@@ -68,7 +68,7 @@ function monthPart({ month, columns }, answer) {
   const name = `${MONTHS[month - 1]} ${answer.year}`, days = dates => [dates[0], dates.at(-1)].map(date => Number(date.slice(8))).join(' to ');
   const column = dates => element('div', { className: 'column' }, columnTable(`${name}, ${days(dates)}`, dates, answer));
   return element('section', { className: 'month' },
-    element('h3', {}, MONTHS[month - 1], ' ', element('span', {}, offsetBefore(columns[0][0], answer))), ...columns.map(column));
+    element('h3', {}, name, ' ', element('span', {}, `UTC${offsetBefore(columns[0][0], answer)}`)), ...columns.map(column));
 }
 
 /** The unit, the datum, the clock and the place. */
