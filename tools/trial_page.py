@@ -37,6 +37,7 @@ OPENED = [
      ['Times in EST (UTC-5), from Sun 9 Mar 03:00 in EDT (UTC-4)', '-05:00', '-04:00', 'canvas']),
     ('a week over fall back', {'station': BOSTON, 'date': '2025-10-30', 'zone': 'America/New_York'}, ['-05:00', '-04:00', 'canvas']),
     ('a month', {'station': BOSTON, 'date': '2025-06-10', 'view': 'month'}, ['June 2025', 'Mon 30', 'H High Tide']),
+    ('a month below the sill', {'station': BOSTON, 'date': '2025-06-10', 'view': 'month', 'sill': '40'}, ['Above the sill at 40 feet: at no time of this month.']),
     ('a name with quotes, a comma, letters and a tag', {'station': STRANGE, 'date': '2025-06-01'}, [html.escape(STRANGE, False), 'Low Tide', 'canvas']),
     ('a limit of a current', {'station': RACE, 'date': '2025-06-01', 'sill': '2'}, ['times within the limit of 2 knots', 'Slack Flood Begins', 'canvas']),
     ('a negative limit', {'station': RACE, 'date': '2025-06-01', 'sill': '-2'}, ['times within the limit of 2 knots', 'canvas']),
@@ -116,11 +117,11 @@ class PageTrial:
         shown = 'document.querySelector("#sheets[aria-busy=false]") !== null'
         for query, wanted in (({'station': RACE, 'year': '2027', 'sill': '2'}, ['Within 2 kn', 'limit of']),
                               ({'station': BOSTON, 'year': '2027', 'sill': '1.2', 'units': 'metres', 'hours': '12'}, ['Above 1.2 m', 'converted from feet']),
-                              ({'station': BOSTON, 'year': '12345'}, ['The year, “12345”, is not a year']),
                               ({'station': BOSTON, 'year': '2027', 'sill': '40'}, ['Above 40 ft: at no time of this year', 'January 2027 <span>UTC-05:00<']),
                               ({'station': BOSTON, 'year': '2027', 'sill': '-40'}, ['Above -40 ft: all of this year']),
                               ({'station': 'Atlantis', 'year': '2027'}, ['There is no station “Atlantis” here', 'Look for a part of its name.']),
                               ({'year': '2027'}, ['Choose a station on the page of the week.']),
+                              ({'station': BOSTON, 'year': '12345'}, ['The year, “12345”, is not a year']),
                               ({'station': BOSTON, 'year': '2027', 'date': '2026-13-45'}, ['The date, “2026-13-45”, is not a day'])):
             with Tab(self.site, 1280, 900) as tab:
                 document = tab.open(f'year.html?{urllib.parse.urlencode(query)}', shown)

@@ -116,5 +116,5 @@ class Predicted:
             first = datetime.datetime(year, 1, 1) if start == 'before' else start.astimezone(clock)
             last = datetime.datetime(year, 12, 31) if stop == 'after' else stop.astimezone(clock)
             days = (last.date() - first.date()).days
-            yield (f'{first.date()}', f'{".." if start == "before" else f"{first:%H:%M}"}–{".." if stop == "after" else f"{last:%H:%M}"}'
-                   f'{f" +{days}" if days > 1 else ""}')
+            end = '..' if stop == 'after' else f'{last:%H:%M} +{days}' if days > 1 else f'{last:%H:%M}'
+            yield f'{first.date()}', f'{".." if start == "before" else f"{first:%H:%M}"}–{end}'

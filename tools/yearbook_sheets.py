@@ -95,7 +95,8 @@ class Year:
     def above_text(self, start, stop, open_start, open_stop):
         first, last = self.clock.at(start), self.clock.at(stop)
         days = (datetime.date.fromisoformat(last[0]) - datetime.date.fromisoformat(first[0])).days
-        return f'{".." if open_start else first[1]}–{".." if open_stop else last[1]}{f" +{days}" if days > 1 else ""}'
+        end = '..' if open_stop else f'{last[1]} +{days}' if days > 1 else last[1]
+        return f'{".." if open_start else first[1]}–{end}'
 
     def height(self, date):
         """How many lines a day takes."""
@@ -282,9 +283,10 @@ def about_lines(year):
 def legend(year):
     words = {event.word for event in year.events}
     signs = ', '.join(f'{sign} {word}' for word, sign in SIGNS.items() if word in words)
-    times = ' '.join(text for texts in year.above.values() for text in texts)
-    above = f'{times_name(year)}: first to last whole minute, on the day on which it begins'
-    return '; '.join([signs] + [above] * bool(year.sill) + ['+N: it ends N days later'] * ('+' in times) + ['..: outside this year'] * ('..' in times))
+    texts = [text for texts in year.above.values() for text in texts]
+    times, extent = ' '.join(texts), {(): 'at no time of this year', ('..–..',): 'all of this year'}.get(tuple(texts))
+    above = f'{times_name(year)}: {extent or "first to last whole minute, on the day on which it begins"}'
+    return '; '.join([signs or 'no events in this year'] + [above] * bool(year.sill) + ['+N: it ends N days later'] * ('+' in times) + ['..: outside this year'] * ('..' in times))
 
 
 def texts_below(year):

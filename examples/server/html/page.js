@@ -7,7 +7,7 @@ import { askNow, nowText } from './now.js';
 import { addressOf, decimalText, faultsOf, questionOf } from './question.js';
 import { noteSeen } from './recent.js';
 import { NoAnswer, readList, readNotes } from './replies.js';
-import { element, monthSheet, thresholdText, weekSheet } from './sheets.js';
+import { element, lackText, monthSheet, thresholdText, weekSheet } from './sheets.js';
 import { explainSill, listenToSills } from './sills.js';
 import { readStations, withNotes } from './stations.js';
 import { showTaking } from './take.js';
@@ -68,15 +68,15 @@ function showStation(answer) {
   place('about').replaceChildren(...aboutLine(answer, reference));
   place('clocks').replaceChildren(...(clocks ? [clocks.text, element('a', { href: addressWith({ zone: clocks.zone }) }, 'Show that clock')] : []));
   place('station').textContent = known ? stationText(known) : '';
-  place('notes').textContent = [turnsOnlyText(answer), answer.events.length === 0 ? 'There are no events in this time.' : ''].filter(Boolean).join(' ');
+  place('notes').textContent = [turnsOnlyText(answer), lackText(answer)].filter(Boolean).join(' ');
   place('threshold').textContent = answer.isCurrent ? 'limit of' : 'sill at';
   place('sill-word').textContent = answer.isCurrent ? 'limit' : 'sill';
   place('units').textContent = answer.units;
   place('choose-units').hidden = answer.isCurrent;
   controls.units.options[0].textContent = `${answer.ownUnits} (the station's)`;
   explainSill({ ...answer, datum: known?.notes.datum ?? reference?.notes.datum });
-  showNear(known);
   showDifferences(answer);
+  showNear(known);
 }
 
 function showCurve(answer, isPaper = false) {

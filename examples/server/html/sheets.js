@@ -29,6 +29,19 @@ export const thresholdText = answer => `${answer.isCurrent ? 'limit of' : 'sill 
 export const stateText = answer => `${answer.isCurrent ? 'within' : 'above'} the ${thresholdText(answer)}`;
 const capital = text => text[0].toUpperCase() + text.slice(1);
 
+/** How much of its span an answer is above its sill or within its limit, if that is all or none of it; else ''. */
+export function extentText({ sill, times, view }) {
+  if (sill === null) return '';
+  if (times.length === 0) return `at no time of this ${view}`;
+  return times.length === 1 && times[0].openFrom && times[0].openTo ? `all of this ${view}` : '';
+}
+
+/** What an answer lacks: events, or times above its sill or within its limit; or that these are all of its span. */
+export function lackText(answer) {
+  const extent = extentText(answer), events = answer.events.length === 0 ? `There are no events in this ${answer.view}.` : '';
+  return [events, extent && `${capital(stateText(answer))}: ${extent}.`].filter(Boolean).join(' ');
+}
+
 /** The time of a clock, with its offset if the sheet has more than one. */
 const clockText = ({ time, offset }, { offsets }) => (offsets.length === 1 ? time : `${time} ${offset}`);
 
@@ -105,8 +118,8 @@ export function monthSheet(answer) {
   const table = element('table', { className: classes({ month: true, many: most > 5, twelve: hours === '12' }) },
     element('thead', {}, first), element('tbody', {}, ...days.map(date => monthRow(date, answer, usual, most))));
   const signs = Object.entries(SIGNS).filter(([word]) => events.some(({ event }) => event === word));
-  const legend = [signs.map(([word, sign]) => `${sign} ${word}`).join(', ')]
-    .concat(sill === null ? [] : `times ${stateText(answer)} on the day on which they begin`)
+  const legend = (signs.length === 0 ? [] : [signs.map(([word, sign]) => `${sign} ${word}`).join(', ')])
+    .concat(sill === null || extentText(answer) ? [] : `times ${stateText(answer)} on the day on which they begin`)
     .concat(times.some(({ openFrom, openTo }) => openFrom || openTo) ? '..: outside this month' : [])
     .concat(hours === '12' ? 'a before noon, p after it' : [])
     .concat(others.length > 0 ? `times with * at ${others.join(', ')}, the others at ${usual}` : []);

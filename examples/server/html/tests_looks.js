@@ -1,9 +1,10 @@
 import { rangeOf } from './chart.js';
 import { timesWithin } from './events.js';
 import { freeX, isCrowded, placeLabels, roomFor, stepsOf } from './labels.js';
-import { monthSheet, thresholdText, weekSheet } from './sheets.js';
+import { extentText, lackText, monthSheet, thresholdText, weekSheet } from './sheets.js';
 import { same } from './testing.js';
 import { aboveText, columnsOf, columnsOn, heightOf, layoutOf, linesOf, shortTime } from './year_days.js';
+import { yearSheets } from './year_sheets.js';
 import { clockAt, momentText } from './zones.js';
 
 const at = text => Date.parse(text);
@@ -52,6 +53,13 @@ same('a table of a day has heads', [...weekSheet(answer).at(-1).querySelectorAll
 same('a time over midnight is on both days', textOf(weekSheet({
   ...answer, dates: ['2026-12-01', '2026-12-02', '2026-12-03'], times: [time('2026-12-01T22:01Z', '2026-12-02T01:00Z')],
 })).match(/22:01–Wed 01:00|Tue 22:01–01:00/g), ['22:01–Wed 01:00', 'Tue 22:01–01:00']);
+const whole = { from: BEGIN, to: END - 60_000, openFrom: true, openTo: true };
+same('all, none or some of a month', [[], [whole], answer.times, [whole, whole]].map(times => extentText({ sill: '2', times, view: 'month' })),
+  ['at no time of this month', 'all of this month', '', '']);
+same('a month without a sill', extentText({ sill: null, times: [], view: 'month' }), '');
+same('what a month lacks', [[], answer.times].map(times => lackText({ ...answer, view: 'month', times, events: times.length === 0 ? [] : answer.events })),
+  ['There are no events in this month. Within the limit of 2 knots: at no time of this month.', '']);
+same('times on the day on which they begin', [[], answer.times].map(times => textOf(monthSheet({ ...answer, view: 'month', times })).includes('on the day on which they begin')), [false, true]);
 same('a day without a time', textOf(weekSheet({ ...answer, times: [] })).includes('at no time'), true);
 
 const AREA = { x: 0, y: 0, w: 400, h: 200 };
@@ -84,9 +92,21 @@ same('a short time', ['3:05 pm', '12:00 am', '15:05'].map(text => shortTime({ ti
 same('a time on a sheet', aboveText(time('2026-12-01T04:01Z', '2026-12-01T05:00Z'), clockOf), '04:01–05:00');
 same('a time over two days', aboveText(time('2026-12-01T04:01Z', '2026-12-03T05:00Z'), clockOf), '04:01–05:00 +2');
 same('a time cut by the year', aboveText({ ...time('2026-01-01T00:00Z', '2026-01-01T05:00Z'), openFrom: true }, clockOf), '..–05:00');
+same('a time cut by the end of the year', aboveText({ ...time('2026-12-28T04:01Z', '2026-12-31T23:59Z'), openTo: true }, clockOf), '04:01–..');
 same('the lines of a day', [[[], []], [[1, 2, 3], ['a']], [[1], ['a', 'b', 'c', 'd']]].map(([lines, above]) => heightOf({ lines, above })), [2, 3, 4]);
 
 const yearOf = traits => ({ year: 2027, sill: null, hours: '24', isCurrent: false, events: [], points: [], times: [], clockOf, ...traits });
+const sheetsOf = traits => {
+  const year = yearOf({ station: 'Pier', view: 'year', units: 'feet', ownUnits: 'feet', datum: null, zone: 'UTC', begin: at('2027-01-01T00:00Z'), end: at('2028-01-01T00:00Z'),
+    offsets: ['+00:00'], offset: '+00:00', changes: [], constants: [], ...traits });
+  return textOf(yearSheets(year, layoutOf(year)));
+};
+same('each month has its year and its clock', sheetsOf({}).match(/[A-Z][a-z]+ 2027 UTC\+00:00/g).length, 12);
+same('a year without events', sheetsOf({}).includes('no events in this year'), true);
+same('a year names its sill', sheetsOf({ sill: '4' }).includes('above the datum of its constants · sill at 4 feet'), true);
+same('a year below its sill', sheetsOf({ sill: '14' }).includes('Above 14 ft: at no time of this year'), true);
+same('a year above its sill', sheetsOf({ sill: '-14', times: [{ from: at('2027-01-01T00:00Z'), to: at('2027-12-31T23:59Z'), openFrom: true, openTo: true }] })
+  .includes('Above -14 ft: all of this year'), true);
 const long = [time('2026-12-01T04:01Z', '2026-12-03T05:00Z')];
 same('the columns of a sheet of tides', [{}, { hours: '12' }, { sill: '4' }, { sill: '4', times: long }, { sill: '4', hours: '12' }, { sill: '4', hours: '12', times: long }]
   .map(traits => columnsOn(yearOf(traits))), [6, 4, 4, 4, 4, 3]);

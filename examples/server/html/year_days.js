@@ -66,7 +66,7 @@ export const shortTime = ({ time }) => time.replace(/ ([ap])m$/, '$1');
 export function aboveText({ from, to, openFrom, openTo }, clockOf) {
   const [first, last] = [from, to].map(clockOf);
   const days = (Date.parse(last.date) - Date.parse(first.date)) / DAY;
-  return `${openFrom ? '..' : shortTime(first)}–${openTo ? '..' : shortTime(last)}${days > 1 ? ` +${days}` : ''}`;
+  return `${openFrom ? '..' : shortTime(first)}–${openTo ? '..' : `${shortTime(last)}${days > 1 ? ` +${days}` : ''}`}`;
 }
 
 /** The points and the times of a year by their dates; a time is under the date on which it begins. */

@@ -1,6 +1,6 @@
 import { directionsText, stationText, timesText } from './about.js';
 import { isStrongest } from './events.js';
-import { element, thresholdText } from './sheets.js';
+import { element, extentText, thresholdText } from './sheets.js';
 import { shortUnits } from './units.js';
 import { aboveText, dayOf, heightOf, layoutOf, MONTHS, shortTime, SIGNS, sizeFor } from './year_days.js';
 
@@ -86,8 +86,8 @@ function legendOf(answer) {
   const { events, times, clockOf, sill, hours } = answer;
   const signs = Object.entries(SIGNS).filter(([word]) => events.some(({ event }) => event === word));
   const texts = times.map(time => aboveText(time, clockOf));
-  return [signs.map(([word, sign]) => `${sign} ${word}`).join(', '),
-    ...(sill === null ? [] : [`${timesName(answer)}: first to last whole minute, on the day on which it begins`]),
+  return [signs.map(([word, sign]) => `${sign} ${word}`).join(', ') || 'no events in this year',
+    ...(sill === null ? [] : [`${timesName(answer)}: ${extentText(answer) || 'first to last whole minute, on the day on which it begins'}`]),
     ...(hours === '12' ? ['a before noon, p after it'] : []),
     ...(texts.some(text => text.includes('+')) ? ['+N: it ends N days later'] : []),
     ...(texts.some(text => text.includes('..')) ? ['..: outside this year'] : [])].join('; ');
