@@ -5,7 +5,10 @@ offsets_from_xtide.py xml=OFFSETS.XML [file=CONSTANTS] [version=1] > TABLE
 
 With `file`, stations whose reference isn't in that file of harmonic constants, or has another unit, are left out.
 Version 2, the default, keeps the slack times of currents that have their own; version 1 doesn't. Standard error has the
-number of stations that are left out, by the reason.
+number of stations that are left out, by the reason, with the first of them.
+
+If a file is missing or isn't what its key says, or if no station is left, there is no output, standard error has one line
+that says so, and the status is 2.
 """
 
 import collections
@@ -23,6 +26,10 @@ ENTITIES = {'amp': '&', 'lt': '<', 'gt': '>', 'quot': '"', 'apos': "'"}
 
 class LeftOut(Exception):
     """Why a station has no row."""
+
+
+class Wrong(Exception):
+    """Why there is no table."""
 
 
 def plain(text):
@@ -52,11 +59,11 @@ def stations(text):
         yield attributes(tags[0][3]), found
 
 
-def name(text):
+def name(text, what):
     if not text:
-        raise LeftOut('no name or reference that can be read')
+        raise LeftOut(f'no {what} that can be read')
     if len(text.encode()) > 400 or re.search('[\0-\37\177]', text):
-        raise LeftOut('a name that is too long or has control characters')
+        raise LeftOut(f'a {what} that is too long or has control characters')
     return text
 
 
@@ -82,7 +89,7 @@ def decimal(text, least, most, why):
 
 def row(station, found, units):
     """The values by their columns; slack times are empty if the station has none."""
-    made = {'name': name(station.get('name')), 'reference': name(station.get('reference'))}
+    made = {'name': name(station.get('name'), 'name'), 'reference': name(station.get('reference'), 'reference')}
     unit = units.get(made['reference']) if units else None
     if units and not unit:
         raise LeftOut('the reference is not in the file')
@@ -101,26 +108,33 @@ def row(station, found, units):
     return made
 
 
+def read(path):
+    """A file's text, in which each byte is a letter."""
+    with open(path, encoding='latin-1', newline='') as file:
+        return file.read()
+
+
 def units_of(path):
     """The unit of each reference station of a file of harmonic constants."""
-    with open(path, encoding='latin-1', newline='\n') as file:
-        lines = [line.strip(' \t\r\n') for line in file if line[0] != '#' and line.strip(' \t\r\n')]
-    constituents = int(lines[0])
-    at = [i for i, line in enumerate(lines) if line == '*END*'][1] + 1
-    records = range(at, len(lines), 3 + constituents)
-    return {lines[i]: lines[i + 2].split()[1] for i in reversed(records)}
+    lines = [line.strip(' \t\r\n') for line in read(path).split('\n') if not line.startswith('#') and line.strip(' \t\r\n')]
+    try:
+        constituents = int(lines[0])
+        at = [i for i, line in enumerate(lines) if line == '*END*'][1] + 1
+        return {lines[i]: lines[i + 2].split()[1] for i in reversed(range(at, len(lines), 3 + constituents))}
+    except (IndexError, ValueError):
+        raise Wrong(f'{path} isn\'t a file of harmonic constants') from None
 
 
 def table(text, units, version):
-    """The rows, and how many stations are left out or lose something, by the reason."""
-    rows, left_out, lost, names = [], collections.Counter(), collections.Counter(), set()
+    """The rows, and the stations that are left out or lose something, by the reason."""
+    rows, left_out, lost, names = [], collections.defaultdict(list), collections.Counter(), set()
     for station, found in stations(text):
         try:
             made = row(station, found, units)
             if made['name'] in names:
                 raise LeftOut('a name that an earlier row has')
         except LeftOut as why:
-            left_out[str(why)] += 1
+            left_out[str(why)].append(station.get('name', ''))
             continue
         names.add(made['name'])
         slack = [made[column] for column in SLACK_COLUMNS if made[column]]
@@ -134,27 +148,57 @@ def table(text, units, version):
     return rows, left_out, lost
 
 
+def reason(why, names):
+    """A line about the stations that are left out for a reason, with the first name that can be printed."""
+    first = next((it for it in names if it and it.isprintable()), None)
+    return f'{len(names)} left out: {why}{f" ({first[:100]})" if first else ""}'
+
+
+def report(rows, left_out, lost):
+    """The lines for standard error."""
+    by_count = sorted(left_out.items(), key=lambda it: -len(it[1]))
+    return [f'{len(rows)} stations', *(reason(*it) for it in by_count),
+            *(f'{count} {"without" if "slack" in what else "with"} {what}' for what, count in lost.most_common() if count)]
+
+
 def main(xml, file=None, version='2'):
-    with open(xml, encoding='latin-1', newline='') as source:
-        rows, left_out, lost = table(source.read(), units_of(file) if file else None, version)
+    text, units = read(xml), units_of(file) if file else None
+    if '<subordinatestation' not in text:
+        raise Wrong(f'{xml} isn\'t XTide\'s list of subordinate stations: it has no element subordinatestation')
+    rows, left_out, lost = table(text, units, version)
+    if not rows:
+        raise Wrong(f'{xml}: {"; ".join(report(rows, left_out, lost))}')
     columns = COLUMNS + (SLACK_COLUMNS if version == '2' else [])
     sys.stdout.reconfigure(encoding='utf-8', newline='')
     writer = csv.DictWriter(sys.stdout, columns, lineterminator='\n', extrasaction='ignore')
     writer.writeheader()
     writer.writerows(rows)
-    print(f'{len(rows)} stations', file=sys.stderr)
-    for why, count in left_out.most_common():
-        print(f'{count} left out: {why}', file=sys.stderr)
-    for what, count in lost.most_common():
-        if count:
-            print(f'{count} without {what}' if 'slack' in what else f'{count} with {what}', file=sys.stderr)
+    print(*report(rows, left_out, lost), sep='\n', file=sys.stderr)
+
+
+def words_of(arguments):
+    """The options, by their keys."""
+    if any('=' not in word for word in arguments):
+        raise Wrong(f'{next(word for word in arguments if "=" not in word)} is not key=value')
+    words = dict(word.split('=', 1) for word in arguments)
+    for key, value in words.items():
+        if key not in ('xml', 'file', 'version'):
+            raise Wrong(f'there is no key {key}')
+        if not value:
+            raise Wrong(f'{key} is empty')
+    if 'xml' not in words:
+        raise Wrong('xml is missing')
+    if words.get('version', '2') not in ('1', '2'):
+        raise Wrong('version is neither 1 nor 2')
+    return words
 
 
 if __name__ == '__main__':
+    if not sys.argv[1:] or {'-h', '--help'} & set(sys.argv[1:]):
+        print(__doc__.strip())
+        sys.exit(0 if sys.argv[1:] else 2)
     try:
-        words = dict(word.split('=', 1) for word in sys.argv[1:])
-        if words.get('version', '2') not in ('1', '2'):
-            raise ValueError
-        main(**words)
-    except (ValueError, TypeError):
-        sys.exit(__doc__)
+        main(**words_of(sys.argv[1:]))
+    except (Wrong, OSError) as wrong:
+        print(f'offsets_from_xtide: {wrong}', file=sys.stderr)
+        sys.exit(2)
