@@ -180,6 +180,19 @@ class PageTrial:
         self.say(form < 0.4, f'the form fills {form:.0%} of a telephone\'s first screen')
         self.say(not elsewhere, f'{len(tab.requests)} requests of the page, {len(elsewhere)} to other hosts {elsewhere[:3]}')
 
+    def typed(self):
+        """A date that is typed digit by digit opens no page of a year such as 0002, and keeps its place in the field."""
+        with Tab(self.site, 1280, 900) as tab:
+            tab.open(self.address(date='2025-06-01'), f'{SHOWN} && document.querySelector("#near a") !== null')
+            before = tab.value('history.length')
+            tab.value('document.querySelector("[name=date]").focus()')
+            for digit in '07152027':
+                for kind, more in (('keyDown', {'text': digit}), ('keyUp', {})):
+                    tab.call('Input.dispatchKeyEvent', type=kind, key=digit, windowsVirtualKeyCode=ord(digit), **more)
+            shown = tab.until('new URLSearchParams(location.search).get("date") === "2027-07-15" && document.querySelector("#answer[aria-busy=false]") !== null', 10)
+            steps = tab.value('history.length') - before
+        self.say(shown and steps <= 2, f'a date that is typed: {steps} steps of the history')
+
     def extracted(self):
         """The notes that tools/stations_from_xtide.py makes, with and without comments."""
         file, xml = self.site.folder / 'noted.txt', self.site.folder / 'noted.xml'

@@ -14,7 +14,7 @@ import { showTaking } from './take.js';
 import { sillIn } from './units.js';
 import { browserZone, dateText, daysLater, isZone, monthsLater, zoneNames } from './zones.js';
 
-const MINUTE = 60_000, FIRST_WAIT = 5_000, LONGEST_WAIT = 60_000;
+const MINUTE = 60_000, FIRST_WAIT = 5_000, LONGEST_WAIT = 60_000, TYPING_WAIT = 600;
 const place = id => document.getElementById(id);
 const controls = place('question').elements;
 let notes = {};
@@ -23,6 +23,7 @@ let shows = 0;
 let graph = null;
 let drawn = null;
 let retry = { timer: 0, wait: FIRST_WAIT };
+let typing = 0;
 let present = { key: '', line: [] };
 
 /** A station of the list; before the list is there, what the notes have about it. */
@@ -194,11 +195,12 @@ async function show() {
 
 function changeQuestion(event) {
   event.preventDefault();
+  clearTimeout(typing);
   if (place('sills').contains(event.target)) return;
-  const { view, date, sill, zone, units, hours } = controls, { station, units: before } = question();
+  const { view, date, sill, zone, units, hours } = controls, { station, units: before, date: shown } = question();
   const typed = decimalText(sill.value), isOther = event.target.name === 'units' && drawn && typed;
   const changes = {
-    view: view.value, date: date.value, sill: isOther ? sillIn(typed, drawn.ownUnits, before, units.value) : typed,
+    view: view.value, date: date.value || shown, sill: isOther ? sillIn(typed, drawn.ownUnits, before, units.value) : typed,
     zone: zone.value === (isZone(usualZone(station)) ? usualZone(station) : browserZone()) ? null : zone.value,
     units: units.value, hours: hours.value === '24' ? null : hours.value, year: null,
   };
@@ -206,12 +208,19 @@ function changeQuestion(event) {
   if (event.type === 'change' || !isHere(changes) || place('trouble').hasChildNodes()) goTo(changes);
 }
 
+/** Shows a changed question. A date that is typed changes with each digit, so it waits for the next one, and for a year of four digits. */
+function changeSoon(event) {
+  clearTimeout(typing);
+  if (event.target !== controls.date) changeQuestion(event);
+  else if (controls.date.value >= '1000') typing = setTimeout(() => changeQuestion(event), TYPING_WAIT);
+}
+
 function listenToQuestion() {
   const move = steps => {
     const { view, date } = question();
     goTo({ date: view === 'week' ? daysLater(date, 7 * steps) : monthsLater(date, steps) });
   };
-  place('question').addEventListener('change', changeQuestion);
+  place('question').addEventListener('change', changeSoon);
   place('question').addEventListener('submit', changeQuestion);
   controls.earlier.addEventListener('click', () => move(-1));
   controls.later.addEventListener('click', () => move(1));
