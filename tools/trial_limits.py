@@ -190,6 +190,13 @@ def line_lengths(chance):
     return over_text(chance, "\n".join(lines))
 
 
+def pieces(chance):
+    """A file that is read in several pieces: a line of it begins or ends about a multiple of 65,536 bytes."""
+    text = Book(chance).text()
+    size = near(chance, 65_536, 131_072) - chance.randrange(len(text))
+    return over_text(chance, "#" * chance.randint(1, 90) + "\n" + "# note\n" * (size // 7) + "#" + "c" * (size % 7) + "\n" + text)
+
+
 def constituent_counts(chance):
     count = max(1, near(chance, 1, 500, 500, 500))
     book = Book(chance, count=count, years=1)
@@ -339,5 +346,5 @@ def steepness_sums(chance):
     return with_sums(chance, parts)
 
 
-LIMITS = [marks, steps, zone_offsets, seeds, ports, sheet_words, moments, word_faults, line_lengths, constituent_counts, constituent_names, speeds, first_years,
+LIMITS = [marks, steps, zone_offsets, seeds, ports, sheet_words, moments, word_faults, line_lengths, pieces, constituent_counts, constituent_names, speeds, first_years,
           year_counts, arguments, factors, datums, amplitudes, epochs, station_names, meridians, station_counts, cut_files, wrong_words, amplitude_sums, steepness_sums]

@@ -127,6 +127,19 @@ def table_heads(chance):
     return over_table(chance, mark + ",".join(fields) + chance.choice(["\n", "\r", "\r\n", ""]) + ",".join(usual_row(chance, kind % 2 == 0)) + "\n")
 
 
+def largest_levels(chance):
+    """The greatest levels: a datum and a sum of amplitudes at their limits, and a row with the greatest numbers."""
+    book = Book(chance, count=1, years=2)
+    book.speeds, book.factors = [chance.choice(["30", "0.5", "100"])], [["1", "1"]]
+    book.stations = [{**book.stations[0], "datum": chance.choice(["10000", "-10000", "9999.999999"]), "constants": [["C0", chance.choice(["1000", "-1000", "333.333333"]), "0"]]}]
+    one, other = (chance.choice([("100", "10000"), ("100", "-10000"), ("99.999999", "9999.999999"), ("0.000001", "-10000")]) for _ in range(2))
+    other = one if chance.random() < 0.6 else other
+    table = f"{HEADS[0]}\n{','.join(row(adds=[chance.choice(['24:00', '-24:00'])] * 2, times=(one[0], other[0]), plus=(one[1], other[1])))}\n"
+    files = {SMALL: book.text().encode("latin-1"), TABLE: table.encode()}
+    begin = new_year(2000) + chance.randint(3_000, 600_000) * MINUTE
+    return asked_over(chance, files, begin, begin + chance.randint(1, 3_000) * MINUTE)
+
+
 # Years and spans.
 
 
@@ -190,6 +203,14 @@ def word_years(chance):
     end = begin + min(chance.randint(0, 2_000) * MINUTE, last - begin)
     first, years = chance.choice([(2, 1), (2, 500), (8_800, 500), (2000, 1)])
     return asked_over(chance, bounded_book(chance, first, years), begin, end)
+
+
+def clocks(chance):
+    """The day from now on, over files whose years begin or end about this year."""
+    year = datetime.datetime.now(datetime.timezone.utc).year
+    first = year + chance.choice([0, 0, 0, -1, -1, 1])
+    zone = chance.choice([[], ["zone=+15:59"], ["zone=-15:59"]])
+    return Question(["clock", f"file={SMALL}", f"offsets={TABLE}", f"station={chance.choice(['Pier', 'Dock'])}", *zone], bounded_book(chance, first, chance.randint(1, 2)))
 
 
 def cell_blocks(chance):
@@ -284,7 +305,7 @@ def certificate_sizes(chance):
     return Question([command, "file=f.txt", "certificate=certificate.txt"], {"certificate.txt": Sparse(text.encode(), near(chance, 400_000_000))})
 
 
-TABLES = [table_adds, slack_adds, table_times, table_levels, table_names, table_fields, table_heads]
-SPANS = [year_ends, new_years, word_years, cell_blocks, span_lengths, row_counts, first_sheets]
+TABLES = [table_adds, slack_adds, table_times, table_levels, table_names, table_fields, table_heads, largest_levels]
+SPANS = [year_ends, new_years, word_years, clocks, cell_blocks, span_lengths, row_counts, first_sheets]
 # Each of these takes long, or a large file.
 LARGE = [calendar_sheets, tally_sheets, file_sizes, table_sizes, certificate_sizes]
