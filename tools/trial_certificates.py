@@ -1,6 +1,6 @@
 """Certificates and highest-water certificates at, just below and just beyond the limits of their lines, for tools/try_limits."""
 from trial_limits import Book, damaged, near, Question, sized, SMALL
-from trial_spans import bounded_book, HEADS, minutes_about, MINUTE, moment, new_year, row, span, TABLE
+from trial_spans import bounded_book, HEADS, minutes_about, MINUTE, moment, new_year, quiet_book, row, span, TABLE
 
 NAME = "certificate.txt"
 CHECKED_BY = {"certify": "check", "peak": "peakcheck"}
@@ -26,10 +26,10 @@ class Certificates:
 
     def add(self, chance, command):
         """Keeps the certificate of a random span, in a file of two years with a new year between."""
-        files = bounded_book(chance, 1999, 2)
+        files = bounded_book(chance, 1999, 2) if chance.random() < 0.6 else quiet_book(chance, 1999, 2)
         begin = new_year(2000) + minutes_about(chance)
         mark = [f"mark={chance.choice(['0.5', '0', '-1'])}"] if command == "certify" and chance.random() < 0.6 else []
-        over = [f"station={chance.choice(['Pier', 'Dock'])}", *span(begin, begin + chance.choice([8, 64, 600, 2_000]) * MINUTE), *mark]
+        over = [f"station={chance.choice(['Pier', 'Dock'])}", *span(begin, begin + chance.choice([8, 64, 600, 2_000, 1_024, 5_000]) * MINUTE), *mark]
         text = self.output(Question([command, f"file={SMALL}", f"offsets={TABLE}", *over], files))
         if text:
             self.kept[command].append((files, text.decode().split("\n")))
