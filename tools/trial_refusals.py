@@ -31,7 +31,7 @@ def too_fine(chance):
 
 
 def years_that_differ(chance):
-    return file_of(chance, lambda book: book.years.__setitem__(chance.randrange(2), str(len(book.factors[0]) + chance.choice([1, 1, -1, 400]))))
+    return file_of(chance, lambda book: book.years.__setitem__(chance.choice([0, 1, 1, 1, 1]), str(len(book.factors[0]) + chance.choice([1, 1, -1, 400]))))
 
 
 def wrong_constituents(chance):
@@ -79,27 +79,27 @@ def half_slacks(chance):
     return table_with(chance, lambda it: it.__setitem__(chance.choice([8, 9]), ""))
 
 
-def words_of(chance):
+def words_of():
     return ["predict", *OVER, "mark=0.5", "zone=+01:00", "layout=csv"]
 
 
-def words_with(chance, word, is_new=True):
-    """The words of a question with a further one, or with one that isn't there."""
-    words = words_of(chance)
-    kept, rest = words[:1], words[1:] if is_new else [it for it in words[1:] if not it.startswith(word)]
+def words_with(chance, word):
+    """The words of a question, mostly with a further one."""
+    command, *rest = words_of()
     chance.shuffle(rest)
-    rest.insert(chance.randrange(len(rest) + 1), word) if is_new and chance.random() < 0.875 else None
-    return Question(kept + rest, {})
+    if chance.random() < 0.875:
+        rest.insert(chance.randrange(len(rest) + 1), word)
+    return Question([command, *rest], {})
 
 
 def unknown_commands(chance):
-    words = words_of(chance)
+    words = words_of()
     words[0] = chance.choice(["predict", damaged(chance, "predict"), "Predict", "tide", "serve x", "peaks", "", "listen"])
     return Question(words if chance.random() < 0.9 else [], {})
 
 
 def no_pairs(chance):
-    return words_with(chance, chance.choice(["mark", "x", "", "mark:1", "--help", "-"]))
+    return words_with(chance, chance.choice(["mark", "x", "", "mark:1", "-", "--", "--mark"]))
 
 
 def unknown_keys(chance):
@@ -107,23 +107,37 @@ def unknown_keys(chance):
 
 
 def repeated_keys(chance):
-    return words_with(chance, chance.choice(words_of(chance)[1:]))
+    return words_with(chance, chance.choice(words_of()[1:]))
 
 
 def missing_keys(chance):
-    return words_with(chance, chance.choice(["file=", "station=", "begin=", "end=", "mark="]), is_new=False)
+    """Questions without one of their keys, or with all of them."""
+    keys = {"predict": ["file", "station", "begin", "end"], "check": ["file", "certificate"], "peakcheck": ["file", "certificate"], "report": ["file", "station", "begin", "end", "sheets"],
+            "sample": ["seed"], "stations": ["file"], "about": ["file", "station"], "heights": ["file", "station", "begin", "end"], "serve": ["file"], "trial": ["seed"]}
+    usual = {"file": "file=none", "station": "station=Pier", "begin": DAY[0], "end": DAY[1], "certificate": "certificate=none", "sheets": "sheets=tally", "seed": "seed=1"}
+    command = chance.choice(list(keys))
+    left = chance.choice([*keys[command], *keys[command], "none" if "seed" not in keys[command] else "seed"])
+    words = [usual[key] for key in keys[command] if key != left] + chance.choice([[], ["offsets=none"] if "seed" not in keys[command] else []])
+    chance.shuffle(words)
+    return Question([command, *words], {})
 
 
-def unknown_stations(chance):
-    """Names that are nearly a station's, and a row whose reference isn't in the file."""
-    book = Book(chance)
+def named(chance, name, reference):
+    """A question about a station, of the file or of a table's first row with this reference."""
     rows = [usual_row(chance, True) for _ in range(2)]
-    rows[0][1] = chance.choice(["Nowhere", "pier", "Pier ", "Dock", "Pier"])
-    name = chance.choice(["Dock", "Dock", "dock", "Pier", "pier", "Pier ", "Race", "Pie"])
+    rows[0][1] = reference
     table = "\n".join([HEADS[1], *(",".join(it) for it in rows)]) + "\n"
     command = chance.choice(["predict", "about", "heights", "highest", "certify"])
     words = [command, f"file={SMALL}", f"offsets={TABLE}", f"station={name}", *([] if command == "about" else DAY)]
-    return Question(words, {SMALL: book.text().encode("latin-1"), TABLE: table.encode()})
+    return Question(words, {SMALL: Book(chance).text().encode("latin-1"), TABLE: table.encode()})
+
+
+def unknown_stations(chance):
+    return named(chance, chance.choice(["dock", "Dock ", "pier", "Pier ", "Pie", "Race 2", " Pier", "Pier"]), "Pier")
+
+
+def unknown_references(chance):
+    return named(chance, "Dock", chance.choice(["Nowhere", "pier", "Pier ", "Dock", "Pie", "Pier", "\u00e9" * 200]))
 
 
 def unknown_sheets(chance):
@@ -147,21 +161,34 @@ def backward_spans(chance):
     return asked_over(chance, bounded_book(chance, 1999, 3), begin, begin + chance.choice([0, 0, -1, -1, 1, near(chance, -1_440)]) * MINUTE)
 
 
-def marks_and_levels(chance):
-    """Marks, rows and highest water of a row whose two offsets agree, or nearly."""
+def empty_spans(chance):
+    """Highest water of no minute and of one."""
+    begin = new_year(2000) + chance.randint(0, 500_000) * MINUTE
+    words = [f"file={SMALL}", f"station={chance.choice(['Pier', 'Pier', 'Dock'])}", f"offsets={TABLE}", *span(begin, begin + chance.choice([0, 0, 0, 1, -1]) * MINUTE)]
+    return Question([chance.choice(["highest", "peak"]), *words], bounded_book(chance, 1999, 3))
+
+
+def with_two_offsets(chance, command, more):
+    """A row whose two offsets differ in one number, by the least that can be written, or agree."""
     one = [f"{chance.randint(0, 3)}:{chance.randint(0, 59):02}", plain(chance.randint(1, 3_000_000), 6), plain(chance.randint(-3_000_000, 3_000_000), 6)]
     other = list(one)
-    if chance.random() < 0.8:
+    if chance.random() < 0.9:
         at = chance.randrange(3)
         other[at] = ["0:01", "1.000001", "-0.000001"][at]
-    fields = [it for pair in zip(one, other) for it in pair]
-    table = f"{HEADS[0]}\nDock,Pier,{','.join(fields)}\n"
-    command = chance.choice(["predict", "certify", "calendar", "report", "heights", "highest", "peak"])
-    more = [f"mark={chance.choice(['0', '1.5'])}"] if command in ("predict", "certify", "calendar", "report") else []
-    words = [command, f"file={SMALL}", f"offsets={TABLE}", "station=Dock", *span(new_year(2000) + 99 * MINUTE, new_year(2000) + 3_000 * MINUTE), *more]
-    files = {SMALL: Book(chance).text().encode("latin-1"), TABLE: table.encode()}
-    return Question(words + (["sheets=tally"] if command == "report" else []), files)
+    table = f"{HEADS[0]}\nDock,Pier,{','.join(it for pair in zip(one, other) for it in pair)}\n"
+    words = [command, f"file={SMALL}", f"offsets={TABLE}", "station=Dock", *span(new_year(2000) + 999 * MINUTE, new_year(2000) + 3_000 * MINUTE), *more]
+    return Question(words, {SMALL: Book(chance).text().encode("latin-1"), TABLE: table.encode()})
+
+
+def marks_not_here(chance):
+    command = chance.choice(["predict", "certify", "calendar", "report"])
+    mark = [f"mark={chance.choice(['0', '1.5', '-10000'])}"] if chance.random() < 0.95 else []
+    return with_two_offsets(chance, command, mark + (["sheets=tally"] if command == "report" else []))
+
+
+def levels_not_here(chance):
+    return with_two_offsets(chance, chance.choice(["heights", "highest", "peak"]), [])
 
 
 LIMITS = [bad_counts, too_fine, years_that_differ, wrong_constituents, no_ends, bad_units, too_fine_offsets, wrong_offsets, not_utf_8, half_slacks, unknown_commands, no_pairs,
-          unknown_keys, repeated_keys, missing_keys, unknown_stations, unknown_sheets, hydraulic, backward_spans, marks_and_levels]
+          unknown_keys, repeated_keys, missing_keys, unknown_stations, unknown_references, unknown_sheets, hydraulic, backward_spans, empty_spans, marks_not_here, levels_not_here]

@@ -130,8 +130,9 @@ def table_heads(chance):
 def largest_levels(chance):
     """The greatest levels: a datum and a sum of amplitudes at their limits, and a row with the greatest numbers."""
     book = Book(chance, count=1, years=2)
-    book.speeds, book.factors = [chance.choice(["30", "0.5", "100"])], [["1", "1"]]
-    book.stations = [{**book.stations[0], "datum": chance.choice(["10000", "-10000", "9999.999999"]), "constants": [["C0", chance.choice(["1000", "-1000", "333.333333"]), "0"]]}]
+    speed, amplitude = chance.choice([("10", "1000"), ("30", "333.333333"), ("0.5", "-1000"), ("100", "-100"), ("30", "333.333334"), ("10", "1000.000001")])
+    book.speeds, book.factors = [speed], [["1", "1"]]
+    book.stations = [{**book.stations[0], "datum": chance.choice(["10000", "-10000", "9999.999999"]), "constants": [["C0", amplitude, "0"]]}]
     one, other = (chance.choice([("100", "10000"), ("100", "-10000"), ("99.999999", "9999.999999"), ("0.000001", "-10000")]) for _ in range(2))
     other = one if chance.random() < 0.6 else other
     table = f"{HEADS[0]}\n{','.join(row(adds=[chance.choice(['24:00', '-24:00'])] * 2, times=(one[0], other[0]), plus=(one[1], other[1])))}\n"
