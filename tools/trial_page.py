@@ -121,6 +121,8 @@ class PageTrial:
                               ({'station': BOSTON, 'year': '2027', 'sill': '-40'}, ['Above -40 ft: all of this year']),
                               ({'station': 'Atlantis', 'year': '2027'}, ['There is no station “Atlantis” here', 'Look for a part of its name.']),
                               ({'year': '2027'}, ['Choose a station on the page of the week.']),
+                              ({'station': '', 'year': '2027'}, ['Choose a station on the page of the week.']),
+                              ({'station': BOSTON, 'year': '2027', 'paper': 'A5'}, ['The paper, “A5”, is neither “A4” nor “Letter”']),
                               ({'station': BOSTON, 'year': '12345'}, ['The year, “12345”, is not a year']),
                               ({'station': BOSTON, 'year': '2027', 'date': '2026-13-45'}, ['The date, “2026-13-45”, is not a day'])):
             with Tab(self.site, 1280, 900) as tab:

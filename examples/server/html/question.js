@@ -2,6 +2,7 @@ import { HOURS, UNITS } from './units.js';
 import { browserZone, clockAt, isDate, isZone } from './zones.js';
 
 const VIEWS = ['week', 'month'];
+export const PAPERS = ['A4', 'Letter'];
 
 /** A number as the program reads it, or null for none. */
 export const decimalText = text => text?.trim().replace(',', '.') || null;
@@ -16,6 +17,7 @@ const KEYS = {
   zone: [isZone, 'The time zone, “$”, is not known to this browser. Write it as America/New_York.'],
   units: [value => UNITS.includes(value), 'The units, “$”, are neither “feet” nor “metres”.'],
   hours: [value => HOURS.includes(value), 'The hours, “$”, are neither “12” nor “24”.'],
+  paper: [value => PAPERS.includes(value), 'The paper, “$”, is neither “A4” nor “Letter”.'],
 };
 
 /** What is wrong with the values of an address: each key with a sentence. A key that is left out or empty is right. */

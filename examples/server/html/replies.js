@@ -21,7 +21,7 @@ export class NoAnswer extends Error {
 /** The text for a pair of the question with a bad value. The pairs are numbered from 1. */
 function pairText(number, question) {
   const [key, value] = Object.entries(question)[number - 1] ?? ['', ''];
-  const form = key === 'mark' ? ' a number such as 4 or -1.25, with at most six decimals' : ' of its form';
+  const form = key === 'mark' ? ' a number from -10000 to 10000, such as 4 or -1.25, with at most six decimals' : ' of its form';
   return key ? `The ${KEYS[key] ?? `value of ${key}`}, “${value}”, is not${form}.` : 'The question is not valid.';
 }
 

@@ -131,7 +131,7 @@ for (const [line, text] of [
   ['refused: out of years: file has 2020-01-01T00:00Z to 2030-12-31T23:59Z', 'The constants reach from 2020-01-01T00:00Z to 2030-12-31T23:59Z. Choose a date between them.'],
   ['refused: mark not here', '“Atlantis” has no times above a level: only its turns are computed, not the curve between them.'],
   ['limit: span of 9999999 minutes', 'The question exceeds a limit: span of 9999999 minutes.'],
-  ['words: pair 5 has a bad value', 'The sill or limit, “deep”, is not a number such as 4 or -1.25, with at most six decimals.'],
+  ['words: pair 5 has a bad value', 'The sill or limit, “deep”, is not a number from -10000 to 10000, such as 4 or -1.25, with at most six decimals.'],
   ['words: pair 2 has a bad value', 'The begin, “2025-06-08T00:00Z”, is not of its form.'],
   ['words: pair 9 has a bad value', 'The question is not valid.'],
   ['refused: for a new reason', 'The server has no answer to this question.'],

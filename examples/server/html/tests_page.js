@@ -80,8 +80,8 @@ for (const text of ['', 'boston', '42.35', '95 10', '10 190', '8443970', "42° 7
 const faults = search => faultsOf(search).map(({ text }) => text);
 same('a day that is not there', faults('?date=2026-13-45'), ['The date, “2026-13-45”, is not a day of the calendar. Write it as 2026-12-31, in a year from 0002 to 9998.']);
 same('a year that is not there', faults('?year=12345'), ['The year, “12345”, is not a year from 0002 to 9998.']);
-same('faults by their keys', faultsOf('?view=day&zone=Atlantis&units=fathoms&hours=13&date=2026-02-30').map(({ key }) => key), ['date', 'view', 'zone', 'units', 'hours']);
-same('no faults', faults('?date=2026-12-31&year=2026&view=month&zone=UTC&units=metres&hours=12&sill=x'), []);
+same('faults by their keys', faultsOf('?paper=A5&view=day&zone=Atlantis&units=fathoms&hours=13&date=2026-02-30').map(({ key }) => key), ['date', 'view', 'zone', 'units', 'hours', 'paper']);
+same('no faults', faults('?date=2026-12-31&year=2026&view=month&zone=UTC&units=metres&hours=12&paper=A4&sill=x'), []);
 same('values that are left out', faults('?date=&year='), []);
 same('a value with a dollar', faults('?view=$%26'), ['The view, “$&”, is neither “week” nor “month”.']);
 same('years', ['2026', '0002', '0001', '9999', '12345', 'x', ''].map(isYear), [true, true, false, false, false, false, false]);

@@ -1,6 +1,6 @@
 import { turnsOnlyText } from './about.js';
 import { answerTo } from './answer.js';
-import { addressOf, decimalText, faultsOf, questionOf } from './question.js';
+import { addressOf, decimalText, faultsOf, PAPERS, questionOf } from './question.js';
 import { NoAnswer, readBeside, readList, readNotes } from './replies.js';
 import { element } from './sheets.js';
 import { readStations, withNotes } from './stations.js';
@@ -10,7 +10,6 @@ import { textLengths, yearSheets } from './year_sheets.js';
 
 const place = id => document.getElementById(id);
 const controls = place('question').elements;
-const PAPERS = ['A4', 'Letter'];
 /** By year.css, in mm: the greatest height of a line, that of a line of text, and the height of all else on a sheet. */
 const MOST_HIGH = 5, TEXT = 3.4, AROUND = 30;
 /** The letters that a line of text and one of the station's name have at least. A line of a name is less high than two of text. */
@@ -77,7 +76,7 @@ function showControls({ station, year, zone, sill, units }) {
   Object.entries({ year, zone, sill: sill ?? '' }).forEach(([key, value]) => { controls[key].value = value; });
   place('units').textContent = units ?? '';
   place('week').href = `index.html${addressOf(location.search, { year: null, paper: null })}`;
-  document.title = `${station ?? 'A station'}, ${year}: tides and currents`;
+  document.title = `${station || 'A station'}, ${year}: tides and currents`;
 }
 
 function listen() {
@@ -111,7 +110,7 @@ async function start() {
   listen();
   setPaper();
   faults.forEach(({ text }) => note(text));
-  if (question.station === null) note(weekLink('Choose a station on the page of the week.'));
+  if (!question.station) note(weekLink('Choose a station on the page of the week.'));
   else if (faults.length === 0) await show(question, all);
   place('sheets').setAttribute('aria-busy', 'false');
 }
