@@ -223,7 +223,7 @@ class PageTrial:
             notes.unlink()
             document = tab.open(f'?{urllib.parse.urlencode({"station": SEATTLE, "date": "2025-06-01"})}', SHOWN)
             notes.write_text(text)
-        self.say('Times in EDT (UTC-4), this browser\'s clock' in document and 'canvas' in document and '47.6026' not in document,
+        self.say('Times in EDT (UTC-4), the clock of America/New_York' in document and 'canvas' in document and '47.6026' not in document,
                  'page: without the notes it has the browser\'s clock')
 
     def fresh(self):

@@ -16,13 +16,12 @@ export function directionsText(notes) {
     .map(([word, degrees]) => `${word} ${String(degrees).padStart(3, '0')}°`).join(', ');
 }
 
-/** The clocks of the times that are shown, as `Times in EST (UTC-5)`, and whose clock that is. */
+/** The clocks of the times that are shown, as `Times in EST (UTC-5)`, and whose clock that is, also for paper. */
 export function timesText({ zone, offsets, begin, end, known }) {
   const starts = [{ moment: begin, clock: clockAt(begin, zone) }, ...clockChanges(begin, end, zone)].filter(({ clock }) => offsets.includes(clock.offset));
   const names = starts.map(({ moment, clock: { date, time } }, index) =>
     `${index === 0 ? '' : `from ${dateText(date)} ${time} in `}${clockName(zone, moment)}`);
-  const own = known?.notes.zone;
-  const whose = zone === own ? 'local time at the station' : isZone(own) || zone !== browserZone() ? `the clock of ${zone}` : "this browser's clock";
+  const whose = zone === known?.notes.zone ? 'local time at the station' : `the clock of ${zone}`;
   return `Times in ${names.join(', ')}, ${whose}`;
 }
 
