@@ -162,6 +162,8 @@ def report(rows, left_out, lost):
 
 
 def main(xml, file=None, version='2'):
+    if version not in ('1', '2'):
+        raise Wrong('version is neither 1 nor 2')
     text, units = read(xml), units_of(file) if file else None
     if '<subordinatestation' not in text:
         raise Wrong(f'{xml} isn\'t XTide\'s list of subordinate stations: it has no element subordinatestation')
@@ -176,29 +178,34 @@ def main(xml, file=None, version='2'):
     print(*report(rows, left_out, lost), sep='\n', file=sys.stderr)
 
 
-def words_of(arguments):
+def words_of(arguments, needed, optional):
     """The options, by their keys."""
     if any('=' not in word for word in arguments):
         raise Wrong(f'{next(word for word in arguments if "=" not in word)} is not key=value')
     words = dict(word.split('=', 1) for word in arguments)
     for key, value in words.items():
-        if key not in ('xml', 'file', 'version'):
+        if key not in (*needed, *optional):
             raise Wrong(f'there is no key {key}')
         if not value:
             raise Wrong(f'{key} is empty')
-    if 'xml' not in words:
-        raise Wrong('xml is missing')
-    if words.get('version', '2') not in ('1', '2'):
-        raise Wrong('version is neither 1 nor 2')
+    for key in needed:
+        if key not in words:
+            raise Wrong(f'{key} is missing')
     return words
 
 
-if __name__ == '__main__':
-    if not sys.argv[1:] or {'-h', '--help'} & set(sys.argv[1:]):
-        print(__doc__.strip())
-        sys.exit(0 if sys.argv[1:] else 2)
+def start(tool, about, run, needed, optional):
+    """Runs a tool with the options of the command line; bad input ends it with one line and status 2."""
+    arguments = sys.argv[1:]
+    if not arguments or {'-h', '--help'} & set(arguments):
+        print(about.strip())
+        sys.exit(0 if arguments else 2)
     try:
-        main(**words_of(sys.argv[1:]))
+        run(**words_of(arguments, needed, optional))
     except (Wrong, OSError) as wrong:
-        print(f'offsets_from_xtide: {wrong}', file=sys.stderr)
+        print(f'{tool}: {wrong}', file=sys.stderr)
         sys.exit(2)
+
+
+if __name__ == '__main__':
+    start('offsets_from_xtide', __doc__, main, ['xml'], ['file', 'version'])

@@ -10,7 +10,8 @@ The result is an object with a member for each station's name: an object of `zon
 north and east positive), `datum`, `country`, `source`, `identifier`, and for a current `flood_direction` and
 `ebb_direction` (whole degrees from true north towards which it sets, 0 to 359). A note that is missing, out of range or
 `Unknown` has no member. Of two stations of one name the first has the notes. Standard error has the number of stations
-with each note.
+with each note. If a file is missing or isn't one of harmonic constants, there is no output, standard error has one line
+that says so, and the status is 2.
 """
 
 import collections
@@ -21,7 +22,7 @@ import sys
 # Nothing is written beside the scripts, so that a package that root calls leaves no file behind.
 sys.dont_write_bytecode = True
 
-from offsets_from_xtide import stations
+from offsets_from_xtide import start, stations, Wrong
 
 NOTES = ('zone', 'latitude', 'longitude', 'datum', 'country', 'source', 'identifier', 'flood_direction', 'ebb_direction')
 COMMENT = re.compile(r'#\s*!?(\w+):\s*(.*)')
@@ -65,8 +66,11 @@ def reference_stations(path):
             elif text:
                 data.append((text, comments))
                 comments = {}
-    constituents = int(data[0][0])
-    first = [index for index, (text, _) in enumerate(data) if text == '*END*'][1] + 1
+    try:
+        constituents = int(data[0][0])
+        first = [index for index, (text, _) in enumerate(data) if text == '*END*'][1] + 1
+    except (IndexError, ValueError):
+        raise Wrong(f'{path} isn\'t a file of harmonic constants') from None
     for index in range(first, len(data) - 1, 3 + constituents):
         name, comments = data[index]
         zone = re.search(r'\s:?(\S+)$', data[index + 1][0])
@@ -100,10 +104,4 @@ def main(file, xml=None, only=None):
 
 
 if __name__ == '__main__':
-    try:
-        words = dict(word.split('=', 1) for word in sys.argv[1:])
-        main(**words)
-    except OSError as fault:
-        sys.exit(f'stations_from_xtide: {fault}')
-    except (ValueError, TypeError, IndexError):
-        sys.exit(__doc__)
+    start('stations_from_xtide', __doc__, main, ['file'], ['xml', 'only'])
