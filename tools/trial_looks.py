@@ -27,7 +27,7 @@ DOCK = 'Trial Dock, Massachusetts'
 OFFSETS = ('name,reference,high_add,low_add,high_times,low_times,high_plus,low_plus,flood_add,ebb_add\n'
            f'"{DOCK}","{BOSTON}",0:05,0:12,0.930,0.960,0.000,0.000,,\n')
 PAPERS = {'A4': (8.27, 11.69), 'Letter': (8.5, 11)}
-SHOWN = 'document.querySelector("#answer[aria-busy=false]:not([hidden]), #trouble .note, #sheets[aria-busy=false]") !== null'
+SHOWN = 'document.querySelector("#answer[aria-busy=false]:not([hidden]), #trouble .note, #sheets[aria-busy=false], #verdict:not(:empty)") !== null'
 
 # The pages: what they are about, the file, and the question.
 PAGES = [
@@ -41,6 +41,8 @@ PAGES = [
     ('a refusal', '', {'station': 'Atlantis'}),
     ('a year with a sill', 'year.html', {'station': BOSTON, 'sill': '4'}),
     ('a year of a current with a limit', 'year.html', {'station': NARROWS, 'sill': '2'}),
+    ('a year of a station that is not there', 'year.html', {'station': 'Atlantis'}),
+    ('a check', 'check.html', {'station': BOSTON, 'begin': '2025-06-01T04:00Z', 'end': '2025-06-08T04:00Z', 'mark': '4'}),
 ]
 
 # The faults of a page: an array of texts. Colours are those of the browser, so the checks see what a reader sees.
@@ -113,7 +115,8 @@ class LooksTrial:
         tab.open(f'{file}{query}', SHOWN if question else 'document.querySelectorAll("#finder a").length > 0')
         seen = [tab.value(FAULTS)]
         self.keep(tab, f'{about}-{how}')
-        tab.value('document.querySelectorAll("#question details, #take").forEach(it => { it.open = true; })')
+        tab.value('document.querySelectorAll("#question details, #take, #differences, #answer details").forEach(it => { it.open = true; })')
+        tab.value('document.querySelectorAll("[name=known]").forEach(it => { it.value = "no sum"; it.dispatchEvent(new Event("input")); })')
         seen.append(tab.value(FAULTS))
         if not all(seen):
             self.say(False, f'{about}, {how}: the checks did not run')

@@ -29,10 +29,17 @@ function clockOf(minute) {
   return { ...clock, offset, text: `${clock.date} ${clock.time} ${offset}` };
 }
 
-function dayTable([date, events], hasOffsets) {
+/** The heads of a day's columns, which are only for screen readers. */
+function heads(unit) {
+  const head = text => element('th', { scope: 'col' }, element('span', { className: 'unseen' }, text));
+  return element('thead', { className: 'unseen-heads' }, element('tr', {}, ...['Time', `Level in ${unit}`, 'Event'].map(head)));
+}
+
+function dayTable([date, events], unit, hasOffsets) {
   const rows = events.map(({ time, offset, level, label }) => element('tr', {}, element('td', {}, hasOffsets ? `${time} ${offset}` : time),
     element('td', { className: 'level' }, levelText(level)), element('td', {}, label ?? 'Highest')));
-  return element('table', {}, element('caption', {}, dateText(date, { weekday: 'short', day: 'numeric', month: 'short', year: 'numeric' })), ...rows);
+  return element('table', {}, element('caption', {}, dateText(date, { weekday: 'short', day: 'numeric', month: 'short', year: 'numeric' })), heads(unit),
+    element('tbody', {}, ...rows));
 }
 
 function show() {
@@ -55,7 +62,7 @@ function show() {
   const marked = mark === undefined ? '' : `, with a mark at ${Number(mark) / 1e6}`;
   place('about').textContent = `In ${unit}${marked}, from ${clockOf(begin).text} up to ${clockOf(end).text}`;
   place('offsets').textContent = zones.value === 'UTC' ? '' : [...offsets].join(', ');
-  place('days').replaceChildren(...Array.from(days, day => dayTable(day, offsets.size > 1)));
+  place('days').replaceChildren(...Array.from(days, day => dayTable(day, unit, offsets.size > 1)));
 }
 
 /** Shows the SHA-256 of each file, which can be saved, and whether it is among what the user pasted, or what is wrong with that. */
