@@ -1,5 +1,5 @@
 const LINE = 13, GAP = 7, MARGIN = 2;
-/** Pixels of height for labels of two lines beyond the curve, and for labels that are written upwards. */
+/** Pixels of height beyond the curve for labels of two lines, and for crowded labels, some of which are lines farther or upright. */
 const FLAT = GAP + 2 * LINE + 4, UPRIGHT = 74;
 /** How many lines farther from its point a label may be, and by how many of its widths it may be shifted. */
 const STEPS = [0, 1, 2, 3, 4], SHIFTS = [0, -0.25, 0.25, -0.5, 0.5], UPRIGHT_SHIFTS = [0, -0.2, 0.2, -0.4, 0.4];
