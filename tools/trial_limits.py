@@ -88,11 +88,11 @@ class Book:
         return {"name": name, "meridian": "0:00 :UTC", "datum": plain(chance.randrange(5_000_000), 6), "units": chance.choice(["feet", "meters", "knots"]), "constants": constants}
 
     def table(self, rows):
-        """The lines of a table, a constituent's values now and then over several lines."""
+        """The lines of a table, a constituent's values now and then over several lines, as many are."""
         for name, values in zip(self.names, rows):
             yield name
-            cut = self.chance.randrange(len(values)) if len(values) > 1 and self.chance.random() < 0.2 else 0
-            yield from (" ".join(part) for part in (values[:cut], values[cut:]) if part)
+            most = 200 if self.chance.random() < 0.8 else self.chance.randint(1, 200)
+            yield from (" ".join(values[at:at + most]) for at in range(0, len(values), most))
 
     def lines(self):
         yield self.count

@@ -283,7 +283,7 @@ def tally_sheets(chance):
     book.speeds, book.arguments, book.factors = ["0.0002"] * 2, [["0"] * 12, ["180.0000001"] * 12], [["1"] * 12] * 2
     book.stations = [{**book.stations[0], "datum": "0", "units": "feet", "constants": [["C0", "0.000001", "280"], ["C1", "0.000001", "280"]]}]
     begin = new_year(2000) + chance.randint(0, 5_000) * MINUTE
-    end = begin + (2_400_000 + chance.randint(-900_000, 900_000)) * MINUTE
+    end = begin + (2_600_000 + chance.randint(-40_000, 40_000)) * MINUTE
     return Question(["report", f"file={SMALL}", "station=Pier", *span(begin, end), "sheets=tally,range,first"], {SMALL: book.text().encode("latin-1")})
 
 
