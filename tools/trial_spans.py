@@ -296,8 +296,11 @@ def file_sizes(chance):
 
 
 def table_sizes(chance):
+    """Tables of about the greatest length, of which some end with empty lines, which are no rows."""
+    size = near(chance, 67_108_864)
     text = HEADS[0] + "\n" + ",".join(row()) + "\n" + chance.choice(["", '"', "Other,"])
-    return Question(["predict", "file=f.txt", f"offsets={TABLE}", "station=Dock", "begin=2000-01-10T00:00Z", "end=2000-01-11T00:00Z"], {TABLE: Sparse(text.encode(), near(chance, 67_108_864))})
+    held = text.encode() if chance.random() < 0.6 else (HEADS[0] + "\n" + ",".join(row())).encode().ljust(size, b"\n")
+    return Question(["predict", "file=f.txt", f"offsets={TABLE}", "station=Dock", "begin=2000-01-10T00:00Z", "end=2000-01-11T00:00Z"], {TABLE: Sparse(held, size)})
 
 
 def certificate_sizes(chance):
