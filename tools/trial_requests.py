@@ -51,6 +51,32 @@ def lengths(chance):
     return head(f"{chance.choice(['POST'] * 5 + ['GET'])} /check HTTP/1.1", ["Host: a", f"{name}:{chance.choice(['', ' ', '  '])}{text}", *more], b"x" * chance.choice([0, 2, 3, 4]))
 
 
+def greatest_lengths(chance):
+    """Lengths just at and beyond 4,194,304, of which only a few bytes come."""
+    text = str(MOST_BODY + chance.choice([-1, 0, 0, 1, 1, 1, 2, chance.randint(1, 10 ** chance.randint(1, 17))]))
+    return head("POST /check HTTP/1.1", ["Host: a", f"Content-Length: {text.rjust(chance.choice([1, 1, 17, 18]), '0')}"], b"x" * chance.choice([0, 1, 9_000]))
+
+
+def missing_lengths(chance):
+    """A body without a length, and one whose length has nearly the right name."""
+    field = chance.choice(["Content-Length: 3", "Content-Lengths: 3", "Content_Length: 3", "Transfer-Encoding: chunked", "Content-Type: text/plain", "X: Content-Length: 3"])
+    fields = ["Host: a", *chance.choice([[], [field]])]
+    chance.shuffle(fields)
+    return head(f"POST /check{chance.choice(['', '?', '?zone=UTC'])} HTTP/1.{chance.choice('01')}", fields, b"abc"[:chance.randint(0, 3)])
+
+
+def unknown_paths(chance):
+    path = chance.choice(["/stations", "/predict", "/check", "/heights", "/calendar", "/clock", "/certify"])
+    path = damaged(chance, path).replace(" ", "%20").replace("\t", "%09") if chance.random() < 0.8 else chance.choice(["/report", "/highest", "/peak", "/peakcheck", "/about", "/sample", "/trial", "/serve", path])
+    return head(f"{chance.choice(['GET', 'HEAD', 'POST', 'PUT'])} {path}{chance.choice(['', '?a', '?station=Pier'])} HTTP/1.1")
+
+
+def wrong_methods(chance):
+    path = chance.choice(["/stations", "/predict", "/check", "/check", "/heights", "/calendar", "/clock", "/certify"])
+    method = chance.choice(["POST", "PUT", "DELETE", "OPTIONS", "PATCH", "TRACE", "get", "Get", "GETS", "A" * 300, "HEAD", "GET", "!#$%&'*+-.^_`|~"])
+    return head(f"{method} {path}{chance.choice(['', '?station=Pier'])} HTTP/1.1", chance.choice([["Host: a"], ["Host: a", "Content-Length: 0"]]))
+
+
 def bodies(chance):
     """Bodies of about as many bytes as their head says, at times of the greatest length."""
     size = near(chance, MOST_BODY) if chance.random() < 0.3 else abs(near(chance, 0, 300, 65_536, 8_192))
@@ -79,4 +105,4 @@ def methods(chance):
     return head(f"{method} {path} {version}", fields)
 
 
-LIMITS = [head_sizes, field_counts, line_counts, lengths, bodies, queries, methods]
+LIMITS = [head_sizes, field_counts, line_counts, lengths, greatest_lengths, missing_lengths, bodies, queries, methods, unknown_paths, wrong_methods]
