@@ -270,6 +270,19 @@ def first_sheets(chance):
     return Question(["report", f"file={SMALL}", "station=Pier", *span(begin, end), *mark, "sheets=first,tally"], steady_book(chance, units))
 
 
+def folds(chance):
+    """Names by which a line of the sheet `ical` has about 75, 149 or 223 octets, of characters of one to four, some of them escaped."""
+    files = steady_book(chance, chance.choice(["knots", "feet"]))
+    size = chance.choice([23, 24, 46, 47, 60, 61, 97, 98, 121, 195]) + chance.randint(-3, 3)
+    letters, name = chance.choice(["a", "a,;\\", "\u00e9", "\u20aca", "\U0001f30a\u00e9,"]), ""
+    while len(name.encode()) < size - 4:
+        name += chance.choice(letters)
+    name += "a" * (size - len(name.encode()))
+    files[TABLE] = f'{HEADS[0]}\n"{name}",Pier{"," * 6}\n'.encode()
+    begin = new_year(2000) + chance.randint(0, 500_000) * MINUTE
+    return Question(["report", f"file={SMALL}", f"offsets={TABLE}", f"station={name}", *span(begin, begin + chance.randint(0, 200) * MINUTE), "sheets=ical,first"], files)
+
+
 def calendar_sheets(chance):
     """Lists of about 100,000 events, of which the sheet `ical` shows as many: six an hour."""
     begin = new_year(2000) + chance.randint(0, 500_000) * MINUTE
@@ -310,6 +323,6 @@ def certificate_sizes(chance):
 
 
 TABLES = [table_adds, slack_adds, table_times, table_levels, table_names, table_fields, table_heads, largest_levels]
-SPANS = [year_ends, new_years, word_years, clocks, cell_blocks, span_lengths, row_counts, first_sheets]
+SPANS = [year_ends, new_years, word_years, clocks, cell_blocks, span_lengths, row_counts, first_sheets, folds]
 # Each of these takes long, or a large file.
 LARGE = [calendar_sheets, tally_sheets, file_sizes, table_sizes, certificate_sizes]
