@@ -346,5 +346,6 @@ def steepness_sums(chance):
     return with_sums(chance, parts)
 
 
-LIMITS = [marks, steps, zone_offsets, seeds, ports, sheet_words, moments, word_faults, line_lengths, pieces, constituent_counts, constituent_names, speeds, first_years,
-          year_counts, arguments, factors, datums, amplitudes, epochs, station_names, meridians, station_counts, cut_files, wrong_words, amplitude_sums, steepness_sums]
+WORDS = [marks, steps, zone_offsets, seeds, ports, sheet_words, moments, word_faults]
+FILES = [line_lengths, pieces, constituent_counts, constituent_names, speeds, first_years, year_counts, arguments, factors, datums, amplitudes, epochs, station_names, meridians,
+         station_counts, cut_files, wrong_words, amplitude_sums, steepness_sums]
