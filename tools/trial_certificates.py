@@ -1,4 +1,6 @@
 """Certificates and highest-water certificates at, just below and just beyond the limits of their lines, for tools/try_limits."""
+import datetime
+
 from trial_limits import Book, damaged, near, Question, sized, SMALL
 from trial_spans import bounded_book, HEADS, minutes_about, MINUTE, moment, new_year, quiet_book, row, span, TABLE
 
@@ -148,6 +150,45 @@ class Certificates:
                 lines[at:at + 1] = [one if it == 1 else f"{word} {it}" for it in (first, minutes[0] - first) if it]
         return self.question(command, files, lines)
 
+    def wrong_steps(self, chance):
+        """Cells of one minute that are another one: an event in place of none, none in place of one, or the other event."""
+        files, lines = self.pick(chance, "certify")
+        words = {"track turn": ("high", "low"), "track slack": ("flood", "ebb"), "track mark": ("rise", "fall")}
+        while not any(line.startswith("t ") for line in lines):
+            files, lines = self.pick(chance, "certify")
+        begins = chance.choice(["s", "t ", "t ", "t "])
+        at = chance.choice([at for at, line in enumerate(lines) if line[:2] == begins] or [0])
+        kinds = words.get(next((line for line in reversed(lines[:at]) if line in words), ""), ("high", "low"))
+        if lines[at] == "s":
+            lines[at] = f"t {chance.choice(kinds)} {chance.randint(-2_000_000, 2_000_000)}"
+        elif at:
+            kind, level = lines[at][2:].split(" ")
+            lines[at] = chance.choice(["s", f"t {kinds[kind == kinds[0]]} {level}", f"t {kind} {int(level) + chance.choice([1, -1])}"])
+        return self.question("certify", files, lines)
+
+    def tracks_wanted(self, chance):
+        """A current's slack track that is missing, and one of a tide or of a row whose offsets differ."""
+        files, lines = self.pick(chance, "certify")
+        places = [at for at, line in enumerate(lines) if line.startswith("track ") or line == "done"]
+        slack = [at for at in places if lines[at] == "track slack"]
+        if slack and chance.random() < 0.9:
+            del lines[slack[0]:next(at for at in places if at > slack[0])]
+        elif not slack:
+            lines[places[1]:places[1]] = ["track slack", *chance.choice([[], ["s"], lines[places[0] + 1:places[1]]])]
+        return self.question("certify", files, lines)
+
+    def single_minutes(self, chance):
+        """Highest water with a cell for each minute, at another minute or with another value."""
+        files, lines = self.pick(chance, "peak")
+        cells = sum(int(line[2:]) if line.startswith("u ") else line == "m" for line in lines[6:])
+        lines[6:] = ["m"] * cells + ["done", ""]
+        if chance.random() < 0.8:
+            at = datetime.datetime.strptime(lines[4][3:].rjust(17, "0"), "%Y-%m-%dT%H:%MZ")
+            lines[4] = f"at {moment(at + near(chance, 0, 1, -1) * MINUTE)}"
+        if chance.random() < 0.3:
+            lines[5] = f"value {int(lines[5][6:]) + chance.choice([1, -1, 10 ** 20, -10 ** 28, -10 ** 30])}"
+        return self.question("peak", files, lines)
+
     def counts(self, chance):
         """Many cells more than the span has minutes, and tracks without any."""
         command = chance.choice(list(CHECKED_BY))
@@ -169,4 +210,4 @@ class Certificates:
 
     def limits(self):
         return [self.quiet_cells, self.event_levels, self.certificate_marks, self.cells_under, self.peak_values, self.names, self.certificate_moments, self.certificate_lines,
-                self.versions, self.covers, self.counts, self.bytes_changed]
+                self.versions, self.covers, self.wrong_steps, self.tracks_wanted, self.single_minutes, self.counts, self.bytes_changed]
