@@ -137,7 +137,7 @@ def flags(chance):
 
 
 def counts(chance):
-    """Counts in the header that aren't those of the data, up to the greatest."""
+    """Counts in the header that differ from the data, up to the greatest."""
     zone = Zone(chance)
     zone.leaps = chance.choice([0, 0, 1, 27])
     key = chance.choice(["universal", "standard", "leaps", "times", "types", "letters"])
